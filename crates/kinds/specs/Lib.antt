@@ -1,0 +1,4 @@
+pub mod Domain
+pub mod Spans
+pub mod Choices
+pub mod Pairs
