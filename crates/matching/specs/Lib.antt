@@ -1,0 +1,4 @@
+pub mod Entries
+pub mod Texts
+pub mod Verdicts
+pub mod Words
