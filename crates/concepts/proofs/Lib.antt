@@ -1,0 +1,5 @@
+pub mod Meanings
+pub mod Firsts
+pub mod Values
+pub mod Saturation
+pub mod Verdicts

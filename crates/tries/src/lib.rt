@@ -1,0 +1,3 @@
+// Worked examples, which are run.
+#[cfg(test)]
+mod descriptions;
