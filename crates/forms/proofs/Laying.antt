@@ -18,6 +18,7 @@ use Rattle.forms.specs.Laying.{Next, Final, Laid}
 use Rattle.forms.specs.Few.{Ascends, Few}
 use Rattle.forms.specs.declared.row.Row.{Row}
 use Rattle.forms.proofs.Finding.{stands-once}
+use Rattle.forms.proofs.Listing.{path-at}
 use Rattle.forms.proofs.Successors.{before-trans}
 
 -- tables that agree on their first rows have them at the same paths
@@ -60,18 +61,6 @@ module _ {R V : Type 0} (k : Domain R V) (f : List ℕ → Label V) (w : List �
       found (r ∷ ρ) = inr shorter
 
   module _ (T : ℕ → Row R) (dead : ℕ → Bool) (n : ℕ) (π : List ℕ) (laid : Laid k f w T dead n π) where
-    -- each row stands at a path
-    path-of : (m c : ℕ) → c < m → c < n → (ρ : List ℕ) × Stands T c ρ
-    path-of zero c l h = absurd (omega arith)
-    path-of (suc m) c l h = ⊎-elim
-        (λ e. ([], subst (λ x. Stands T x []) (sym e) root))
-        (λ ne.
-        let some : 0 < c = omega arith in
-        let p = laid .parents c some h in
-        let up = path-of m (T c .parent) (omega arith) (omega arith) in
-        (then-role (up .0) (T c .role), below c some (up .1)))
-        (cases-eq c 0)
-
     -- what comes after π comes after every row
     rows-before : (c : ℕ) (ρ τ : List ℕ) → c < n → Stands T c ρ → Before π τ → Before ρ τ
     rows-before c ρ τ l s p = ⊎-elim
@@ -94,7 +83,7 @@ module _ {R V : Type 0} (k : Domain R V) (f : List ℕ → Label V) (w : List �
     lined τ e after (suc m) c l =
         let rest = lined τ e after m (c + 1) (omega arith) in
         let here : c < n = omega arith in
-        let at = path-of (c + 1) c (omega arith) here in (
+        let at = path-at w T n (laid .parents) (laid .order) (laid .written) (c + 1) c (omega arith) here in (
           at .0 ∷ rest .0,
           omega (arith, rest .1),
           (

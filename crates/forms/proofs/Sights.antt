@@ -21,8 +21,7 @@ use Rattle.concepts.specs.Tables.{is-nothing, is-prim, is-within, is-and, is-al
 use Rattle.concepts.specs.WellFormed.{At, Faultless}
 use Rattle.concepts.specs.declared.node.Node.{Node}
 use Rattle.concepts.proofs.Values.{value-at, values-below}
-use Rattle.forms.specs.Labels.{Label, silent}
-use Rattle.forms.specs.Written.{bottom, an-atom, a-range, a-lower, an-upper}
+use Rattle.forms.specs.Labels.{Label, silent, bottom, an-atom, a-range, a-lower, an-upper}
 use Rattle.forms.specs.Tables.{then-role}
 use Rattle.forms.specs.Sheets.{Form, plain-form, both-forms, under-form, sheet-form, row-label, label-of, form-of, node-form, child, onward, find}
 use Rattle.forms.specs.Seen.{Holds, Seen, begins, entries}

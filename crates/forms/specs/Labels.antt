@@ -72,14 +72,36 @@ writes (at-most n s) [] = true
 writes (at-most n s) (r ∷ []) = eqb r s
 writes (at-most n s) (r ∷ t ∷ π) = false
 
+-- The labels that single ops write.
+module _ {V : Type 0} where
+  -- NOTHING
+  abbrev pub bottom : Label V
+  bottom = record { empty = true; atom = λ _. false; admit = λ _. true; lower = 0; upper = None }
+
+  -- PRIM
+  abbrev pub an-atom : ℕ → Label V
+  an-atom m = record { empty = false; atom = λ n. eqb n m; admit = λ _. true; lower = 0; upper = None }
+
+  -- WITHIN
+  abbrev pub a-range : {R : Type 0} → Domain R V → R → Label V
+  a-range k r = record { empty = false; atom = λ _. false; admit = λ v. k .admits r v; lower = 0; upper = None }
+
+  -- AT-LEAST
+  abbrev pub a-lower : ℕ → Label V
+  a-lower n = record { empty = false; atom = λ _. false; admit = λ _. true; lower = n; upper = None }
+
+  -- AT-MOST
+  abbrev pub an-upper : ℕ → Label V
+  an-upper n = record { empty = false; atom = λ _. false; admit = λ _. true; lower = 0; upper = Some n }
+
 module _ {R V : Type 0} (k : Domain R V) where
   -- what a concept writes at a path
   abbrev pub label : Concept R → List ℕ → Label V
   label thing π = silent
-  label nothing π = here (record { empty = true; atom = λ _. false; admit = λ _. true; lower = 0; upper = None }) π
-  label (prim m) π = here (record { empty = false; atom = λ n. eqb n m; admit = λ _. true; lower = 0; upper = None }) π
-  label (within r) π = here (record { empty = false; atom = λ _. false; admit = λ v. k .admits r v; lower = 0; upper = None }) π
+  label nothing π = here bottom π
+  label (prim m) π = here (an-atom m) π
+  label (within r) π = here (a-range k r) π
   label (and a b) π = join (label a π) (label b π)
   label (all s a) π = under s (label a) π
-  label (at-least n s) π = under s (here (record { empty = false; atom = λ _. false; admit = λ _. true; lower = n; upper = None })) π
-  label (at-most n s) π = under s (here (record { empty = false; atom = λ _. false; admit = λ _. true; lower = 0; upper = Some n })) π
+  label (at-least n s) π = under s (here (a-lower n)) π
+  label (at-most n s) π = under s (here (an-upper n)) π

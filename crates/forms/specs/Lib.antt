@@ -9,7 +9,6 @@ pub mod Stripping
 pub mod Laying
 pub mod Sheets
 pub mod Seen
-pub mod Written
 pub mod Blocks
 pub mod Groups
 pub mod Few

@@ -13,7 +13,7 @@ use Rattle.masks.specs.Masks.{has}
 use Rattle.concepts.specs.Concepts.{Concept, thing}
 use Rattle.concepts.specs.Tables.{is-nothing, is-prim, is-within, is-and, is-all, is-at-least, is-at-most, is-entry, values}
 use Rattle.concepts.specs.declared.node.Node.{Node}
-use Rattle.forms.specs.Labels.{Label, silent, join, here, under, writes, label}
+use Rattle.forms.specs.Labels.{Label, silent, join, here, under, writes, bottom, an-atom, a-range, a-lower, an-upper, label}
 use Rattle.forms.specs.declared.row.Row.{Row}
 
 -- what is written at each path, and which paths are written
@@ -74,13 +74,13 @@ module _ {R V : Type 0} (k : Domain R V) where
   -- the form of a node, from those of the nodes below it and those that places hold
   abbrev pub form-of : (ℕ → Option (Form V)) → List (Form V) → Node R → Form V
   form-of entries below n =
-      cond (is-nothing n) (plain-form (record { empty = true; atom = λ _. false; admit = λ _. true; lower = 0; upper = None })) (
-      cond (is-prim n) (plain-form (record { empty = false; atom = λ m. eqb m (n .which); admit = λ _. true; lower = 0; upper = None })) (
-      cond (is-within n) (plain-form (record { empty = false; atom = λ _. false; admit = λ v. k .admits (n .restriction) v; lower = 0; upper = None })) (
+      cond (is-nothing n) (plain-form bottom) (
+      cond (is-prim n) (plain-form (an-atom (n .which))) (
+      cond (is-within n) (plain-form (a-range k (n .restriction))) (
       cond (is-and n) (both-forms (getD below (n .left) (plain-form silent)) (getD below (n .right) (plain-form silent))) (
       cond (is-all n) (under-form (n .which) (getD below (n .left) (plain-form silent))) (
-      cond (is-at-least n) (under-form (n .which) (plain-form (record { empty = false; atom = λ _. false; admit = λ _. true; lower = n .count; upper = None }))) (
-      cond (is-at-most n) (under-form (n .which) (plain-form (record { empty = false; atom = λ _. false; admit = λ _. true; lower = 0; upper = Some (n .count) }))) (
+      cond (is-at-least n) (under-form (n .which) (plain-form (a-lower (n .count)))) (
+      cond (is-at-most n) (under-form (n .which) (plain-form (an-upper (n .count)))) (
       cond (is-entry n) (valueOr (entries (n .which)) (plain-form silent))
       (plain-form silent))))))))
 

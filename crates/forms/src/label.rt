@@ -2,8 +2,7 @@
 ghost use mathlib.Core.Path.{_≡_};
 ghost use Prim.Native.Nat.{_<_};
 ghost use Rattle.forms.specs.Seen.{Holds};
-ghost use Rattle.forms.specs.Labels.{Label as Written, silent as nothing-written, join, least as smaller};
-ghost use Rattle.forms.specs.Written.{bottom, an-atom, a-range, a-lower, an-upper};
+ghost use Rattle.forms.specs.Labels.{Label as Written, silent as nothing-written, join, least as smaller, bottom, an-atom, a-range, a-lower, an-upper};
 ghost use Rattle.forms.specs.Sheets.{row-label};
 use crate::row::Row;
 use kinds::kind::Kind;

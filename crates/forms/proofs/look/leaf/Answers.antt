@@ -3,7 +3,7 @@ use mathlib.Core.Bool.{false}
 use borrow.Author.Needs.{needs}
 use Rattle.concepts.specs.Tables.{is-nothing, is-prim, is-within, is-at-least, is-at-most}
 use Rattle.forms.specs.Labels.{silent}
-use Rattle.forms.specs.Written.{bottom, an-atom, a-range, a-lower, an-upper}
+use Rattle.forms.specs.Labels.{bottom, an-atom, a-range, a-lower, an-upper}
 use Rattle.forms.proofs.Sights.{seen-as, form-nothing, form-prim, form-within, form-at-least, form-at-most, form-thing}
 use Rattle.forms.proofs.look.leaf.Needs as need
 
