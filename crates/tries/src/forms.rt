@@ -4,6 +4,7 @@ use concepts::node::ALL;
 use concepts::node::AND;
 use concepts::node::AT_LEAST;
 use concepts::node::AT_MOST;
+use concepts::node::ENTRY;
 use concepts::node::NOTHING;
 use concepts::node::Node;
 use concepts::node::PRIM;
@@ -22,8 +23,13 @@ use std::test::Note;
 use std::test::check_eq;
 
 // How many rows a description has; 0 where it is contradictory, 999 where it is declined.
-fn built<K: Kind>(nodes: &[Node<K>], sheets: Sheets<K>, out: &mut [Row<K>]) -> usize {
-    match check(nodes, &[]) {
+fn built<K: Kind>(
+    nodes: &[Node<K>],
+    held: &[Option<u8>],
+    sheets: Sheets<K>,
+    out: &mut [Row<K>],
+) -> usize {
+    match check(nodes, held) {
         Ok(description) => match build(&description, sheets, out) {
             Built::Rows(n) => n,
             Built::Contradictory => 0,
@@ -61,7 +67,7 @@ fn expect(nodes: &[Node<Span>], rows: &mut [Row<Span>], n: usize) -> Result<(), 
         front: &none[0..0],
         back: &none[0..0],
     };
-    check_eq(built(nodes, sheets, rows), n)
+    check_eq(built(nodes, &[], sheets, rows), n)
 }
 
 // The parent, the role, the numbers and the atoms of a row.
@@ -150,4 +156,64 @@ fn deepest() -> Result<(), Fail> {
     check_eq(shape(rows[127]), (126, 15, 0, None, 0))?;
     check_eq(rows[127].restriction.admits(10), true)?;
     check_eq(rows[127].restriction.admits(21), false)
+}
+
+// An entry is read from its block, before or after the one that is written.
+#[test]
+fn entries() -> Result<(), Fail> {
+    let mut held = [BLANK; 128];
+    let entry = [
+        node(AT_LEAST, 2, 3, 0, 0),
+        node(PRIM, 1, 0, 0, 0),
+        node(AND, 0, 0, 0, 1),
+    ];
+    expect(&entry, &mut held, 2)?;
+    let nodes = [
+        node(ENTRY, 0, 0, 0, 0),
+        node(AT_MOST, 2, 5, 0, 0),
+        node(AND, 0, 0, 0, 1),
+        node(ALL, 7, 0, 0, 0),
+        node(AND, 0, 0, 2, 3),
+    ];
+    let front = Sheets {
+        front: &held,
+        back: &held[0..0],
+    };
+    let mut rows = [BLANK; 128];
+    check_eq(built(&nodes, &[Some(2)], front, &mut rows), 4)?;
+    check_eq(shape(rows[0]), (0, 0, 0, None, 2))?;
+    check_eq(shape(rows[1]), (0, 2, 3, Some(5), 0))?;
+    check_eq(shape(rows[2]), (0, 7, 0, None, 2))?;
+    check_eq(shape(rows[3]), (2, 2, 3, None, 0))?;
+    let short = Sheets {
+        front: &held[0..127],
+        back: &held[0..0],
+    };
+    check_eq(built(&nodes, &[Some(2)], short, &mut rows), 998).note("no block")
+}
+
+// AT-LEAST 1 of each of the 16 roles, then the same of the fillers of role 0.
+fn wide() -> [Node<Span>; 33] {
+    let mut nodes = [node(THING, 0, 0, 0, 0); 33];
+    for r in 0..16 {
+        nodes[r] = node(AT_LEAST, r as u8, 1, 0, 0);
+    }
+    nodes[16] = node(AND, 0, 0, 0, 1);
+    for r in 2..16 {
+        nodes[15 + r] = node(AND, 0, 0, 14 + r as u8, r as u8);
+    }
+    nodes[31] = node(ALL, 0, 0, 30, 0);
+    nodes[32] = node(AND, 0, 0, 30, 31);
+    nodes
+}
+
+#[test]
+fn widest() -> Result<(), Fail> {
+    let mut rows = [BLANK; 128];
+    let nodes = wide();
+    expect(&nodes, &mut rows, 33)?;
+    check_eq(shape(rows[1]), (0, 0, 1, None, 0))?;
+    check_eq(shape(rows[17]), (1, 15, 1, None, 0))?;
+    check_eq(shape(rows[18]), (0, 1, 1, None, 0))?;
+    check_eq(shape(rows[32]), (0, 15, 1, None, 0))
 }
