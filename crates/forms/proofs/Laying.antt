@@ -12,7 +12,7 @@ use Rattle.std.proofs.shelf.Elements.{all-weaker}
 use Rattle.kinds.specs.Domain.{Domain}
 use Rattle.forms.specs.Labels.{Label}
 use Rattle.forms.specs.Tables.{then-role, Stands, root, below, Before, shorter}
-use Rattle.forms.specs.Finished.{Open}
+use Rattle.forms.specs.Finished.{Topmost, Open}
 use Rattle.forms.specs.Laid.{Placed, Filled, Flagged}
 use Rattle.forms.specs.Laying.{Next, Final, Laid}
 use Rattle.forms.specs.Few.{Ascends, Few}
@@ -40,9 +40,10 @@ stands-depth T n parents c ρ l (below {π = σ} d some s) =
 
 module _ {R V : Type 0} (k : Domain R V) (f : List ℕ → Label V) (w : List ℕ → Bool) where
   -- one row, at the empty path
-  pub laid-first : (T : ℕ → Row R) (dead : ℕ → Bool) → w [] ≡ true → Open k (T 0) (f []) → dead 0 ≡ f [] .empty → Laid k f w T dead 1 []
-  laid-first T dead written content flag = record {
+  pub laid-first : (T : ℕ → Row R) (dead : ℕ → Bool) → Topmost (T 0) → w [] ≡ true → Open k (T 0) (f []) → dead 0 ≡ f [] .empty → Laid k f w T dead 1 []
+  laid-first T dead top written content flag = record {
     some = omega arith;
+    first = top;
     parents = λ c some l. absurd (omega arith);
     order = λ b c ρ τ l m p q. absurd (omega arith);
     written = λ c ρ l s. subst (λ z. w z ≡ true) (sym (only c ρ l s)) written;
@@ -130,6 +131,7 @@ module _ {R V : Type 0} (k : Domain R V) (f : List ℕ → Label V) (w : List �
       pub laid-more : Laid k f w T′ dead′ (n + 1) ρ
       laid-more = record {
         some = omega arith;
+        first = subst (λ (x : Row R). Topmost x) (sym (same 0 (laid .some))) (laid .first);
         parents = λ c some l. ⊎-elim (λ h. parents′ c some h) (λ e. let q : T′ c .parent ≡ p = ap (λ x. T′ x .parent) e ∙ parent in omega arith) (ends c l);
         order = λ b c σ τ l m s t. ⊎-elim
             (λ h. laid .order b c σ τ l h (back b σ (omega arith) s) (back c τ h t))
@@ -157,6 +159,7 @@ module _ {R V : Type 0} (k : Domain R V) (f : List ℕ → Label V) (w : List �
     pub laid-placed : Final w π → Placed k f w T n
     laid-placed final = record {
       some = laid .some;
+      first = laid .first;
       parents = laid .parents;
       order = laid .order;
       written = laid .written;

@@ -40,7 +40,8 @@ module _ {R V : Type 0} (k : Domain R V) (f : Form V) (fronted : Fronted f) wher
   pub lined-first : (e : Row R) (xs : List (Row R)) (ds : List Bool) (x : Found-label R) (roles : ℕ) → 0 < length xs → 0 < length ds → Seen k f [] x roles
       → LaidTo e (set xs 0 (row-with x 0 0)) (set ds 0 (x .empty)) 1 []
   lined-first e xs ds x roles l m seen =
-      laid-first k (f .at) (f .on) _ _ (fronted .root)
+      let top = getD-set-same xs 0 (row-with x 0 0) e l in
+      laid-first k (f .at) (f .on) _ _ (ap (λ (row : Row R). row .parent) top, ap (λ (row : Row R). row .role) top) (fronted .root)
       (subst (λ (row : Row R). Open k row (f .at [])) (sym (getD-set-same xs 0 (row-with x 0 0) e l)) (holds-open x 0 0 (f .at []) (seen .label)))
       (getD-set-same ds 0 (x .empty) false m ∙ seen .label .empty)
 

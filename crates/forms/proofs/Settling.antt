@@ -156,6 +156,7 @@ module _ {R V : Type 0} (k : Domain R V) (f : List ℕ → Label V) (w : List �
     pub still-placed : Placed k f w T n
     still-placed = record {
       some = laid .placed .some;
+      first = (kept 0 .parent ∙ laid .placed .first .0, kept 0 .role ∙ laid .placed .first .1);
       parents = λ c z l. subst (λ x. x < c) (sym (kept c .parent)) (laid .placed .parents c z l);
       order = λ b c π ρ l u s t. laid .placed .order b c π ρ l u (back b π s) (back c ρ t);
       written = λ c π l s. laid .placed .written c π l (back c π s);

@@ -13,7 +13,7 @@ use Rattle.kinds.specs.Domain.{Domain}
 use Rattle.masks.specs.Masks.{has}
 use Rattle.forms.specs.Labels.{Label}
 use Rattle.forms.specs.Tables.{then-role, Stands, root, below}
-use Rattle.forms.specs.Finished.{Dead, Shut, Hidden, Open, Closed, Content, FinishedBy}
+use Rattle.forms.specs.Finished.{Topmost, Dead, Shut, Hidden, Open, Closed, Content, FinishedBy}
 use Rattle.forms.specs.Laid.{Closing, Placed, Settled}
 use Rattle.forms.specs.Stripping.{is-zero, Hung}
 use Rattle.forms.specs.declared.row.Row.{Row}
@@ -289,6 +289,7 @@ module _ {R V : Type 0} (k : Domain R V) (T U : ℕ → Row R) where
       pub finished : FinishedBy k f w U (N n)
       finished = record {
         some = N-some n some;
+        first = subst (λ (x : Row R). Topmost x) (sym (carried 0 some (keep-first T) .first refl)) (placed .first);
         live = live;
         parents = λ c z l.
             let x = new-onto (keep T) n c l in

@@ -194,6 +194,7 @@ module _ {R V : Type 0} (k : Domain R V) where
     pub finished-moves : (T : ℕ → Row R) (n : ℕ) → FinishedBy k f w T n → FinishedBy k g v T n
     finished-moves T n fin = record {
       some = fin .some;
+      first = fin .first;
       live = λ d. fin .live (root-moves g f v w back d);
       parents = fin .parents;
       order = fin .order;

@@ -18,6 +18,10 @@ abbrev pub Over : ℕ → Option ℕ → Type 0
 Over lo None = ⊥
 Over lo (Some u) = u < lo
 
+-- a row that hangs from nothing: its parent and its role are 0
+abbrev pub Topmost : {R : Type 0} → Row R → Type 0
+Topmost row = (row .parent ≡ 0) × (row .role ≡ 0)
+
 module _ {R V : Type 0} (k : Domain R V) where
   -- Over what is written at each path.
   module _ (f : List ℕ → Label V) where
@@ -68,6 +72,8 @@ module _ {R V : Type 0} (k : Domain R V) where
     -- the first n rows are the finished form
     pub record FinishedBy (T : ℕ → Row R) (n : ℕ) : Type 0 where
       pub some : 0 < n
+      -- row 0 hangs from nothing
+      pub first : Topmost (T 0)
       -- something can stand at the empty path
       pub live : Dead f [] → ⊥
       -- each row but the first hangs from an earlier one

@@ -9,7 +9,7 @@ use Rattle.std.specs.declared.option.Option.the-variants.{Some, None}
 use Rattle.kinds.specs.Domain.{Domain}
 use Rattle.forms.specs.Labels.{Label}
 use Rattle.forms.specs.Tables.{then-role, Stands, Before}
-use Rattle.forms.specs.Finished.{Dead, Shut, Open}
+use Rattle.forms.specs.Finished.{Topmost, Dead, Shut, Open}
 use Rattle.forms.specs.declared.row.Row.{Row}
 
 module _ {R V : Type 0} (k : Domain R V) (f : List ℕ → Label V) (w : List ℕ → Bool) where
@@ -23,6 +23,7 @@ module _ {R V : Type 0} (k : Domain R V) (f : List ℕ → Label V) (w : List �
   -- the first n rows stand at the written paths, in their order
   pub record Placed (T : ℕ → Row R) (n : ℕ) : Type 0 where
     pub some : 0 < n
+    pub first : Topmost (T 0)
     pub parents : (c : ℕ) → 0 < c → c < n → T c .parent < c
     pub order : (b c : ℕ) (π ρ : List ℕ) → b < c → c < n → Stands T b π → Stands T c ρ → Before π ρ
     pub written : (c : ℕ) (π : List ℕ) → c < n → Stands T c π → w π ≡ true

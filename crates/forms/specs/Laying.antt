@@ -8,7 +8,7 @@ use lib.ListN.{length, take}
 use Rattle.kinds.specs.Domain.{Domain}
 use Rattle.forms.specs.Labels.{Label}
 use Rattle.forms.specs.Tables.{then-role, Stands, Before}
-use Rattle.forms.specs.Finished.{Open}
+use Rattle.forms.specs.Finished.{Topmost, Open}
 use Rattle.forms.specs.declared.row.Row.{Row}
 
 -- Over which paths are written.
@@ -26,6 +26,7 @@ module _ (w : List ℕ → Bool) where
 -- the first n rows stand at the written paths up to π, in their order, and hold what is written there
 pub record Laid {R V : Type 0} (k : Domain R V) (f : List ℕ → Label V) (w : List ℕ → Bool) (T : ℕ → Row R) (dead : ℕ → Bool) (n : ℕ) (π : List ℕ) : Type 0 where
   pub some : 0 < n
+  pub first : Topmost (T 0)
   pub parents : (c : ℕ) → 0 < c → c < n → T c .parent < c
   pub order : (b c : ℕ) (ρ τ : List ℕ) → b < c → c < n → Stands T b ρ → Stands T c τ → Before ρ τ
   pub written : (c : ℕ) (ρ : List ℕ) → c < n → Stands T c ρ → w ρ ≡ true
