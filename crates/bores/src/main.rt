@@ -1,4 +1,6 @@
 // Says which bores take which shafts of a stock list, and for each that does not, a reading that shows why.
+#![tactic(auto)]
+
 use kinds::choice::{Choice, Code};
 use kinds::kind::Kind;
 use kinds::pair::{Both, Pair};

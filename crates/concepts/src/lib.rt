@@ -1,4 +1,6 @@
 // The description language: node tables as they are sent, their checks and weights, and what they mean.
+#![tactic(auto)]
+
 pub mod description;
 pub mod facts;
 pub mod node;

@@ -1,11 +1,11 @@
 -- From laid rows to the finished form of the concept. Assumes nothing.
-use Rattle.std.proofs.Common.{◌≡◌, ℕ, ◌-◌, ◌<◌, ◌≤◌, Bool, true, false, ◌⊎◌, List, [], ◌∷◌, ◌++◌, length, get_or, Some, None, Option, sym, refl, ap, ◌∙◌, subst, inl, inr, ⊎_elim, arith}
+use Rattle.std.proofs.Common.{◌≡◌, ℕ, ◌-◌, ◌<◌, ◌≤◌, Bool, true, false, List, [], length, Option, refl, ap, subst, inl, inr, ⊎_elim, arith}
 use Rattle.std.specs.Option.{option_map}
 use Rattle.kinds.specs.Domain.{Domain}
 use Rattle.concepts.specs.declared.node.Node.{Node}
-use Rattle.concepts.specs.Concepts.{Concept, thing}
+use Rattle.concepts.specs.Concepts.{Concept}
 use Rattle.concepts.specs.Tables.{concept}
-use Rattle.concepts.specs.Weights.{rows_at, weight}
+use Rattle.concepts.specs.Weights.{weight}
 use Rattle.concepts.specs.WellFormed.{WellFormed}
 use Rattle.forms.specs.Labels.{label, writes}
 use Rattle.forms.specs.Tables.{rows_of}
@@ -13,7 +13,7 @@ use Rattle.forms.specs.Finished.{Dead, FinishedBy, Finished}
 use Rattle.forms.specs.Sheets.{Form, sheet_form, concept_form}
 use Rattle.forms.specs.Seen.{entries}
 use Rattle.forms.specs.Few.{Few}
-use Rattle.forms.specs.Keeping.{Sheet, Keeps}
+use Rattle.forms.specs.Keeping.{Keeps}
 use Rattle.forms.specs.Walks.{Proper, LaidOut, whole_form}
 use Rattle.forms.specs.Blocks.{block_of}
 use Rattle.forms.specs.declared.row.Row.{Row}

@@ -1,17 +1,16 @@
 -- What leads to a written path of a description is written. Assumes nothing.
-use Rattle.std.proofs.Common.{◌≡◌, ℕ, zero, suc, ◌+◌, ◌-◌, ◌<◌, ◌≤◌, Bool, true, false, cond, ◌&&◌, ◌||◌, eqb, ◌⊎◌, List, [], ◌∷◌, ◌++◌, length, get_or, is_some, Some, None, fold, Option, unwrap_or, sym, refl, ap, ◌∙◌, subst, inl, inr, ⊎_elim, arith}
+use Rattle.std.proofs.Common.{◌≡◌, ℕ, zero, suc, ◌-◌, Bool, true, false, cond, eqb, List, [], ◌∷◌, ◌++◌, length, get_or, is_some, Some, None, fold, Option, unwrap_or, refl, subst, ⊎_elim, arith}
 use Rattle.std.specs.Option.{option_map}
 use Rattle.std.proofs.ByRecursion.{All-push}
 use Rattle.concepts.specs.Weights.{rows_at}
 use Rattle.forms.specs.Blocks.{block_of}
 use Rattle.forms.specs.Tables.{rows_of}
-use Rattle.std.specs.List.{AllByRecursion as All}
-use Rattle.std.proofs.lemmas.Bool.{or_cases, or_left, or_right, and_parts, and_from, false≢true}
+use Rattle.std.specs.List.{AllByRecursion}
+use Rattle.std.proofs.lemmas.Bool.{or_cases, or_left, or_right, and_parts, and_from}
 use Rattle.kinds.specs.Domain.{Domain}
 use Rattle.concepts.specs.declared.node.Node.{Node}
-use Rattle.concepts.specs.Concepts.{thing}
-use Rattle.concepts.specs.Tables.{is_nothing, is_prim, is_within, is_and, is_all, is_at_least, is_at_most, is_entry, values}
-use Rattle.forms.specs.Labels.{Label, silent, writes}
+use Rattle.concepts.specs.Tables.{is_nothing, is_prim, is_within, is_and, is_all, is_at_least, is_at_most, is_entry}
+use Rattle.forms.specs.Labels.{Label, silent}
 use Rattle.forms.specs.Tables.{then_role}
 use Rattle.forms.specs.Sheets.{Form, child, onward, find, sheet_form, plain_form, both_forms, below_role, under_form, form_of, node_form}
 use Rattle.forms.specs.Seen.{entries}
@@ -61,7 +60,7 @@ module _ {R V : Type 0} (k : Domain R V) where
   fronted_cond false f g p q = q
 
   -- every form of a list is fronted, and so is what stands past its end
-  pub fronted_at : (fs : List (Form V)) → All Fronted fs → (i : ℕ) (d : Form V) → Fronted d → Fronted (get_or fs i d)
+  pub fronted_at : (fs : List (Form V)) → AllByRecursion Fronted fs → (i : ℕ) (d : Form V) → Fronted d → Fronted (get_or fs i d)
   fronted_at [] all i d p = p
   fronted_at (f ∷ fs) all zero d p = all.0
   fronted_at (f ∷ fs) all (suc i) d p = fronted_at fs all.1 i d p
@@ -70,7 +69,7 @@ module _ {R V : Type 0} (k : Domain R V) where
   fronted_value None h = fronted_plain silent
   fronted_value (Some f) h = h f refl
 
-  pub fronted_step : (S : ℕ → Option (Form V)) → ((p : ℕ) (f : Form V) → S p ≡ Some f → Fronted f) → (below : List (Form V)) (n : Node R) → All Fronted below
+  pub fronted_step : (S : ℕ → Option (Form V)) → ((p : ℕ) (f : Form V) → S p ≡ Some f → Fronted f) → (below : List (Form V)) (n : Node R) → AllByRecursion Fronted below
       → Fronted (form_of k S below n)
   fronted_step S held below n all =
       let at : (i : ℕ) → Fronted (get_or below i (plain_form k silent)) = λ i. fronted_at below all i (plain_form k silent) (fronted_plain silent) in
@@ -83,8 +82,8 @@ module _ {R V : Type 0} (k : Domain R V) where
       fronted_cond (is_at_most n) _ _ (fronted_under n.which _ (fronted_plain _)) (
       fronted_cond (is_entry n) _ _ (fronted_value (S n.which) (held n.which)) (fronted_plain _))))))))
 
-  fronted_folded : (S : ℕ → Option (Form V)) → ((p : ℕ) (f : Form V) → S p ≡ Some f → Fronted f) → (acc : List (Form V)) (nodes : List (Node R)) → All Fronted acc
-      → All Fronted (fold (λ below n. below ++ (form_of k S below n ∷ [])) acc nodes)
+  fronted_folded : (S : ℕ → Option (Form V)) → ((p : ℕ) (f : Form V) → S p ≡ Some f → Fronted f) → (acc : List (Form V)) (nodes : List (Node R)) → AllByRecursion Fronted acc
+      → AllByRecursion Fronted (fold (λ below n. below ++ (form_of k S below n ∷ [])) acc nodes)
   fronted_folded S held acc [] all = all
   fronted_folded S held acc (n ∷ ns) all = fronted_folded S held (acc ++ (form_of k S acc n ∷ [])) ns (All-push Fronted acc (form_of k S acc n) all (fronted_step S held acc n all))
 

@@ -1,13 +1,13 @@
 -- Laying one row after another. Assumes nothing.
-use Rattle.std.proofs.Common.{◌≡◌, ℕ, zero, suc, ◌+◌, ◌<◌, ◌≤◌, Bool, true, false, ◌⊎◌, List, [], ◌∷◌, ◌++◌, length, sym, refl, ap, ◌∙◌, subst, inl, inr, ⊎_elim, arith, length-append}
-use Rattle.std.specs.List.{AllByRecursion as All}
+use Rattle.std.proofs.Common.{◌≡◌, ℕ, zero, suc, ◌+◌, ◌<◌, ◌≤◌, Bool, true, ◌⊎◌, List, [], ◌∷◌, length, sym, refl, ap, ◌∙◌, subst, inl, inr, ⊎_elim, arith, length-append}
+use Rattle.std.specs.List.{AllByRecursion}
 use Rattle.std.proofs.lemmas.Bool.{cases_lt, cases_eq}
 use Rattle.std.proofs.ByRecursion.{All-weaker}
 use Rattle.kinds.specs.Domain.{Domain}
 use Rattle.forms.specs.Labels.{Label}
 use Rattle.forms.specs.Tables.{then_role, Stands, root, below, Before, shorter}
 use Rattle.forms.specs.Finished.{Topmost, Open}
-use Rattle.forms.specs.Laid.{Placed, Filled, Flagged}
+use Rattle.forms.specs.Laid.{Placed}
 use Rattle.forms.specs.Laying.{Next, Final, Laid}
 use Rattle.forms.specs.Few.{Ascends, Few}
 use Rattle.forms.specs.declared.row.Row.{Row}
@@ -73,7 +73,7 @@ module _ {R V : Type 0} (k : Domain R V) (f : List ℕ → Label V) (w : List �
 
     -- the rows from c on, and then a path after π
     lined : (τ : List ℕ) → w τ ≡ true → Before π τ → (m c : ℕ) → c + m ≡ n
-        → (ps : List (List ℕ)) × (length ps ≡ m + 1) × Ascends ps × All (λ p. w p ≡ true) ps × All (λ p. (p ≡ τ) ⊎ ((b : ℕ) × (c ≤ b) × (b < n) × Stands T b p)) ps
+        → (ps : List (List ℕ)) × (length ps ≡ m + 1) × Ascends ps × AllByRecursion (λ p. w p ≡ true) ps × AllByRecursion (λ p. (p ≡ τ) ⊎ ((b : ℕ) × (c ≤ b) × (b < n) × Stands T b p)) ps
     lined τ e after zero c l = (τ ∷ [], refl, (tt, tt), (e, tt), (inl refl, tt))
     lined τ e after (suc m) c l =
         let rest = lined τ e after m (c + 1) (omega arith) in

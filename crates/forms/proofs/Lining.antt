@@ -1,11 +1,10 @@
 -- The rows of a slice, laid one after another along a path that is held in another slice. Assumes nothing.
-use Rattle.std.proofs.Common.{◌≡◌, ℕ, zero, suc, ◌+◌, ◌<◌, ◌≤◌, Bool, true, false, ◌&&◌, ◌⊎◌, List, [], ◌∷◌, ◌++◌, length, get_or, take, set, Some, None, Option, sym, refl, ap, ◌∙◌, subst, inl, inr, ⊎_elim, append-nil, arith, get_or-set_other, get_or-set_same}
+use Rattle.std.proofs.Common.{◌≡◌, ℕ, zero, suc, ◌+◌, ◌<◌, ◌≤◌, Bool, true, false, ◌⊎◌, List, [], ◌∷◌, ◌++◌, length, set, Some, None, sym, ap, ◌∙◌, subst, inl, inr, ⊎_elim, append-nil, arith, get_or-set_other, get_or-set_same}
 use Rattle.std.proofs.lemmas.Bool.{cases_order}
 use Rattle.kinds.specs.Domain.{Domain}
 use Rattle.forms.specs.Labels.{Label}
 use Rattle.forms.specs.Tables.{then_role, Stands, Before, rows_of}
 use Rattle.forms.specs.Finished.{Open}
-use Rattle.forms.specs.Laid.{Placed}
 use Rattle.forms.specs.Laying.{Next, Final, Laid}
 use Rattle.forms.specs.Seen.{Holds, Seen}
 use Rattle.forms.specs.Sheets.{Form, find}

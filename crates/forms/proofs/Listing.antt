@@ -1,6 +1,6 @@
 -- The paths of a table's rows, in their order. Assumes nothing.
-use Rattle.std.proofs.Common.{◌≡◌, ℕ, zero, suc, ◌+◌, ◌<◌, ◌≤◌, Bool, true, ◌⊎◌, List, [], ◌∷◌, ◌++◌, length, sym, refl, subst, inl, inr, ⊎_elim, arith}
-use Rattle.std.specs.List.{AllByRecursion as All}
+use Rattle.std.proofs.Common.{◌≡◌, ℕ, zero, suc, ◌+◌, ◌<◌, ◌≤◌, Bool, true, List, [], ◌∷◌, length, sym, refl, subst, ⊎_elim, arith}
+use Rattle.std.specs.List.{AllByRecursion}
 use Rattle.std.proofs.ByRecursion.{All-weaker}
 use Rattle.std.proofs.lemmas.Bool.{cases_eq}
 use Rattle.forms.specs.Few.{Ascends, Few}
@@ -23,7 +23,7 @@ module _ {R : Type 0} (w : List ℕ → Bool) (T : ℕ → Row R) (n : ℕ) (par
       (cases_eq c 0)
 
   listed : (m c : ℕ) → c + m ≡ n
-      → (ps : List (List ℕ)) × (length ps ≡ m) × Ascends ps × All (λ p. w p ≡ true) ps × All (λ p. (b : ℕ) × (c ≤ b) × (b < n) × Stands T b p) ps
+      → (ps : List (List ℕ)) × (length ps ≡ m) × Ascends ps × AllByRecursion (λ p. w p ≡ true) ps × AllByRecursion (λ p. (b : ℕ) × (c ≤ b) × (b < n) × Stands T b p) ps
   listed zero c l = ([], refl, tt, tt, tt)
   listed (suc m) c l =
       let rest = listed m (c + 1) (omega arith) in

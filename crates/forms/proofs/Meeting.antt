@@ -1,15 +1,15 @@
 -- An element meets a finished form exactly when it satisfies the concept. Assumes nothing.
-use Rattle.std.proofs.Common.{◌≡◌, ℕ, zero, suc, ◌+◌, ◌<◌, ◌≤◌, Bool, true, false, ◌&&◌, ◌⊎◌, List, [], ◌∷◌, ◌++◌, length, Some, None, Option, sym, refl, ap, ◌∙◌, subst, inl, inr, ⊎_elim, arith, length-append}
-use Rattle.std.proofs.lemmas.Bool.{both_ways, and_parts, and_from, cases_Bool, false≢true}
+use Rattle.std.proofs.Common.{◌≡◌, ℕ, zero, suc, ◌+◌, ◌<◌, ◌≤◌, true, ◌⊎◌, List, [], ◌∷◌, ◌++◌, length, Some, None, Option, sym, refl, ap, ◌∙◌, subst, inl, inr, ⊎_elim, arith, length-append}
+use Rattle.std.proofs.lemmas.Bool.{both_ways, and_parts, and_from, cases_Bool}
 use Rattle.kinds.specs.Domain.{Domain}
 use Rattle.masks.specs.Masks.{has}
 use Rattle.concepts.specs.Concepts.{Concept}
 use Rattle.concepts.specs.Interpretations.{Interpretation, how_many}
 use Rattle.concepts.proofs.Meanings.{count_some}
-use Rattle.forms.specs.Labels.{Label, silent, writes, label}
+use Rattle.forms.specs.Labels.{Label, writes, label}
 use Rattle.forms.specs.Paths.{Under, Along, Has, Counts, Throughout}
 use Rattle.forms.specs.Tables.{then_role, Stands, root, below, Meets, meets}
-use Rattle.forms.specs.Finished.{Dead, by_nothing, Shut, Hidden, Open, Closed, Content, Finished}
+use Rattle.forms.specs.Finished.{by_nothing, Shut, Hidden, Open, Content, Finished}
 use Rattle.forms.specs.declared.row.Row.{Row}
 use Rattle.forms.proofs.Along.{along_split, along_then, along_last, along_inside}
 use Rattle.forms.proofs.Reading.{silent_has, silent_counts}

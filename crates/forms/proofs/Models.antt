@@ -6,7 +6,7 @@ use Rattle.masks.specs.Masks.{has}
 use Rattle.concepts.specs.Interpretations.{Interpretation, how_many}
 use Rattle.forms.specs.Labels.{Label}
 use Rattle.forms.specs.Paths.{Under}
-use Rattle.forms.specs.Tables.{then_role, Stands, root, below, Before, shorter, lower_role, later, Meets, meets}
+use Rattle.forms.specs.Tables.{then_role, Stands, root, below, Meets, meets}
 use Rattle.forms.specs.Finished.{Over, Dead, by_reading, by_numbers, by_filler, Shut, Content, FinishedBy}
 use Rattle.forms.specs.Groups.{total, owner, owner_below, world_of}
 use Rattle.forms.specs.Built.{Readings}

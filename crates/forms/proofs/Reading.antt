@@ -1,9 +1,9 @@
 -- An element satisfies a concept exactly when it has all that the concept writes along the paths from it. Assumes nothing.
-use Rattle.std.proofs.Common.{◌≡◌, ℕ, zero, ◌<◌, ◌≤◌, min, max, Bool, true, false, cond, ◌&&◌, ◌||◌, eqb, ◌⊎◌, List, [], ◌∷◌, ◌++◌, Some, None, Option, sym, refl, ap, ◌∙◌, subst, inl, inr, ⊎_elim, arith}
-use Rattle.std.proofs.lemmas.Bool.{both_ways, and_parts, and_from, or_cases, or_parts, or_from, or_left, or_right, eqb-true, eq-eqb, cases_Bool, false≢true}
+use Rattle.std.proofs.Common.{◌≡◌, ℕ, ◌<◌, Bool, true, false, cond, eqb, List, [], ◌∷◌, ◌++◌, Some, None, Option, sym, refl, subst, ⊎_elim, arith}
+use Rattle.std.proofs.lemmas.Bool.{and_parts, and_from, or_cases, or_parts, or_from, or_left, or_right, eqb-true, eq-eqb, false≢true}
 use Rattle.kinds.specs.Domain.{Domain}
 use Rattle.concepts.specs.Concepts.{Concept, thing, nothing, prim, within, and, all, at_least, at_most}
-use Rattle.concepts.specs.Interpretations.{Interpretation, Satisfies, how_many}
+use Rattle.concepts.specs.Interpretations.{Interpretation, Satisfies}
 use Rattle.forms.specs.Labels.{Label, least, silent, join, here, under, label}
 use Rattle.forms.specs.Paths.{Under, Along, Has, Counts, Throughout}
 

@@ -1,7 +1,7 @@
 -- At most as many paths are written as the weight of a node says. Assumes nothing.
 use Rattle.std.proofs.Common.{◌≡◌, ℕ, zero, suc, ◌+◌, ◌<◌, ◌≤◌, Bool, true, false, cond, not, ◌||◌, eqb, List, [], ◌∷◌, map, length, get_or, take, is_some, Some, None, filter, Option, unwrap_or, sym, refl, ap, subst, inl, inr, ⊎_elim, arith}
 use lib.ListN.{length-map}
-use Rattle.std.specs.List.{AllByRecursion as All}
+use Rattle.std.specs.List.{AllByRecursion}
 use Rattle.std.proofs.ByRecursion.{all_kept_by, kept_by_passes, All-weaker, All-map}
 use Rattle.std.proofs.lemmas.List.Filters.{length-filter_both}
 use Rattle.std.proofs.lemmas.Bool.{cases_lt, cases_order, eqb-true, eqb-false, or_cases, or_left, or_right, and_parts, not-true, both_ways, false≢true}
@@ -32,17 +32,17 @@ module _ {X : Type 0} where
   pairs_kept Q p [] h = tt
   pairs_kept Q p (x ∷ xs) h = go (p x) (all_kept_by p (Q x) xs h.0) (pairs_kept Q p xs h.1)
     where
-      go : (t : Bool) → All (Q x) (filter p xs) → Pairs Q (filter p xs) → Pairs Q (cond t (x ∷ filter p xs) (filter p xs))
+      go : (t : Bool) → AllByRecursion (Q x) (filter p xs) → Pairs Q (filter p xs) → Pairs Q (cond t (x ∷ filter p xs) (filter p xs))
       go true u v = (u, v)
       go false u v = v
 
   -- what two facts of each element give
-  all_both : (P Q S : X → Type 0) → ((x : X) → P x → Q x → S x) → (xs : List X) → All P xs → All Q xs → All S xs
+  all_both : (P Q S : X → Type 0) → ((x : X) → P x → Q x → S x) → (xs : List X) → AllByRecursion P xs → AllByRecursion Q xs → AllByRecursion S xs
   all_both P Q S f [] p q = tt
   all_both P Q S f (x ∷ xs) p q = (f x p.0 q.0, all_both P Q S f xs p.1 q.1)
 
   pairs_map : {Y : Type 0} (P : X → Type 0) (Q : X → X → Type 0) (S : Y → Y → Type 0) (f : X → Y) → ((x y : X) → P x → P y → Q x y → S (f x) (f y))
-      → (xs : List X) → All P xs → Pairs Q xs → Pairs S (map f xs)
+      → (xs : List X) → AllByRecursion P xs → Pairs Q xs → Pairs S (map f xs)
   pairs_map P Q S f g [] p q = tt
   pairs_map P Q S f g (x ∷ xs) p q = (
     All-map (S (f x)) f xs (all_both P (Q x) (λ y. S (f x) (f y)) (λ y u v. g x y p.0 u v) xs p.1 q.0),
@@ -50,7 +50,7 @@ module _ {X : Type 0} where
   )
 
 -- a number is kept from a list as often as it stands there: not at all, or once
-kept_none : (m : ℕ) (xs : List ℕ) → All (λ y. m ≡ y → ⊥) xs → length (filter (λ x. eqb x m) xs) ≡ 0
+kept_none : (m : ℕ) (xs : List ℕ) → AllByRecursion (λ y. m ≡ y → ⊥) xs → length (filter (λ x. eqb x m) xs) ≡ 0
 kept_none m [] h = refl
 kept_none m (x ∷ xs) h = go (eqb x m) refl (kept_none m xs h.1)
   where
@@ -63,17 +63,17 @@ kept_once m [] h = omega arith
 kept_once m (x ∷ xs) h = go (eqb x m) refl (kept_once m xs h.1)
   where
     go : (t : Bool) → eqb x m ≡ t → length (filter (λ x. eqb x m) xs) ≤ 1 → length (cond t (x ∷ filter (λ x. eqb x m) xs) (filter (λ x. eqb x m) xs)) ≤ 1
-    go true e q = let z = kept_none m xs (subst (λ u. All (λ y. u ≡ y → ⊥) xs) (eqb-true x m e) h.0) in omega arith
+    go true e q = let z = kept_none m xs (subst (λ u. AllByRecursion (λ y. u ≡ y → ⊥) xs) (eqb-true x m e) h.0) in omega arith
     go false e q = q
 
 -- there are at most m numbers below m
-pub pigeonhole : (m : ℕ) (xs : List ℕ) → Distinct xs → All (λ x. x < m) xs → length xs ≤ m
+pub pigeonhole : (m : ℕ) (xs : List ℕ) → Distinct xs → AllByRecursion (λ x. x < m) xs → length xs ≤ m
 pigeonhole zero [] d h = omega arith
 pigeonhole zero (x ∷ xs) d h = absurd (omega (arith, h.0))
 pigeonhole (suc m) xs d h =
     let q : ℕ → Bool = λ x. not (eqb x m) in
     let ys = filter q xs in
-    let low : All (λ x. x < m) ys = all_both (λ x. x < suc m) (λ x. q x ≡ true) (λ x. x < m) (λ x u v. fall x u (eqb-false x m (not-true (eqb x m) v))) ys (all_kept_by q (λ x. x < suc m) xs h) (kept_by_passes q xs) in
+    let low : AllByRecursion (λ x. x < m) ys = all_both (λ x. x < suc m) (λ x. q x ≡ true) (λ x. x < m) (λ x u v. fall x u (eqb-false x m (not-true (eqb x m) v))) ys (all_kept_by q (λ x. x < suc m) xs h) (kept_by_passes q xs) in
     let rest = pigeonhole m ys (pairs_kept (λ x y. x ≡ y → ⊥) q xs d) low in
     let sum = length-filter_both (λ x. eqb x m) q (λ x. refl) xs in
     let one = kept_once m xs d in
@@ -120,7 +120,7 @@ module _ {R V : Type 0} (k : Domain R V) (s : ℕ) (w : List ℕ → Bool) where
     pub begins : p ≡ s ∷ tail p
     pub written : w (tail p) ≡ true
 
-  bounds_past : (m : ℕ) → Few w m → (ps : List (List ℕ)) → Ascends ps → All Past ps → length ps ≤ m
+  bounds_past : (m : ℕ) → Few w m → (ps : List (List ℕ)) → Ascends ps → AllByRecursion Past ps → length ps ≤ m
   bounds_past m h ps a e =
       let q = h (map tail ps) (pairs_map Past Before Before tail (λ x y u v b. before_tail x y s u.begins v.begins b) ps e a)
       (All-map (λ p. w p ≡ true) tail ps (All-weaker Past (λ p. w (tail p) ≡ true) (λ p u. u.written) ps e)) in
@@ -255,6 +255,6 @@ module _ {R V : Type 0} (k : Domain R V) (held : List (Option ℕ)) (S : ℕ →
         | inr high ↦ (let q : m ≡ i = omega arith in subst (λ j. Good j) q (next m (omega arith) (up_to m (omega arith))))
       ]
 
-      pub rows_bound : (i : ℕ) → i < length nodes → (ps : List (List ℕ)) → Ascends ps → All (λ p. (node_form k S nodes i).on p ≡ true) ps
+      pub rows_bound : (i : ℕ) → i < length nodes → (ps : List (List ℕ)) → Ascends ps → AllByRecursion (λ p. (node_form k S nodes i).on p ≡ true) ps
           → length ps ≤ get_or (values (node_weight held) nodes) i 0
       rows_bound i l = up_to (length nodes) (omega arith) i l

@@ -1,9 +1,9 @@
 -- At a path that is not written, a concept writes nothing; and what is written is written along the way. Assumes nothing.
-use Rattle.std.proofs.Common.{◌≡◌, ℕ, Bool, true, false, cond, ◌&&◌, ◌||◌, eqb, ◌⊎◌, List, [], ◌∷◌, ◌++◌, None, sym, refl, ap, ◌∙◌, subst, inl, inr, ⊎_elim, arith}
-use Rattle.std.proofs.lemmas.Bool.{or_parts, and_cases, and_parts, and_from, or_cases, or_left, or_right, false≢true, cases_Bool}
+use Rattle.std.proofs.Common.{◌≡◌, ℕ, Bool, true, false, cond, eqb, List, [], ◌∷◌, ◌++◌, None, sym, refl, ap, ◌∙◌, ⊎_elim, arith}
+use Rattle.std.proofs.lemmas.Bool.{or_parts, and_cases, and_parts, and_from, or_cases, or_left, or_right, false≢true}
 use Rattle.kinds.specs.Domain.{Domain}
 use Rattle.concepts.specs.Concepts.{Concept, thing, nothing, prim, within, and, all, at_least, at_most}
-use Rattle.forms.specs.Labels.{Label, least, silent, join, under, here, writes, label}
+use Rattle.forms.specs.Labels.{Label, least, silent, join, writes, label}
 
 module _ {R V : Type 0} (k : Domain R V) where
   unchosen : (t : Bool) (l : Label V) → (t ≡ true → l ≡ silent) → cond t l silent ≡ silent

@@ -1,12 +1,12 @@
 -- The lowest role after a path, and the next path. Assumes nothing.
-use Rattle.std.proofs.Common.{◌≡◌, ℕ, zero, suc, ◌+◌, ◌<◌, ◌≤◌, min, Bool, true, false, ◌&&◌, ltb, ◌⊎◌, List, [], ◌∷◌, ◌++◌, length, take, drop, Some, None, Option, sym, refl, ap, ◌∙◌, subst, inl, inr, ⊎_elim, arith}
+use Rattle.std.proofs.Common.{◌≡◌, ℕ, ◌+◌, ◌<◌, ◌≤◌, min, Bool, true, false, ◌&&◌, ltb, List, [], ◌∷◌, ◌++◌, length, take, drop, Some, None, Option, sym, ◌∙◌, subst, ⊎_elim, arith}
 use Rattle.std.proofs.lemmas.List.{length-take-le, take-append-drop}
-use Rattle.std.proofs.lemmas.Bool.{both_ways, and_parts, and_from, cases_lt, cases_eq, lt-ltb, ltb-true}
+use Rattle.std.proofs.lemmas.Bool.{both_ways, and_parts, and_from, cases_lt, lt-ltb, ltb-true}
 use Rattle.masks.specs.Masks.{has, digit}
 use Rattle.forms.specs.Tables.{then_role}
-use Rattle.forms.specs.Laying.{Next, Final}
-use Rattle.forms.specs.Walks.{Lowest, AfterHead, Starts, Narrow, Turn, Ahead}
-use Rattle.forms.proofs.Successors.{Early, early_all, early_none, early_past, next_found}
+use Rattle.forms.specs.Laying.{Next}
+use Rattle.forms.specs.Walks.{Lowest, Starts, Narrow, Turn}
+use Rattle.forms.proofs.Successors.{Early, early_past, next_found}
 
 -- a set has numbers below 64
 pub has_small : (n s : ℕ) → has n s ≡ true → s < 64

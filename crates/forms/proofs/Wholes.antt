@@ -1,23 +1,22 @@
 -- What a checked description writes is fit to be laid, settled and stripped. Assumes nothing.
-use Rattle.std.proofs.Common.{◌≡◌, ℕ, zero, suc, ◌+◌, ◌-◌, ◌<◌, ◌≤◌, Bool, true, false, cond, not, ◌&&◌, ◌||◌, eqb, ltb, ◌⊎◌, List, [], ◌∷◌, ◌++◌, length, get_or, is_some, Some, None, fold, Option, unwrap_or, sym, refl, ap, ◌∙◌, subst, inl, inr, ⊎_elim, arith, length-append}
+use Rattle.std.proofs.Common.{◌≡◌, ℕ, zero, suc, ◌-◌, ◌<◌, Bool, true, false, cond, ◌&&◌, ◌||◌, eqb, ltb, List, [], ◌∷◌, ◌++◌, length, get_or, is_some, Some, None, fold, Option, unwrap_or, sym, refl, ap, ◌∙◌, subst, inl, inr, ⊎_elim, arith, length-append}
 use Rattle.std.specs.Option.{option_map}
-use Rattle.std.specs.List.{AllByRecursion as All}
+use Rattle.std.specs.List.{AllByRecursion}
 use Rattle.std.proofs.ByRecursion.{All-push, All-from_get_or, All-weaker}
 use Rattle.std.proofs.lemmas.List.{get_or_default}
 use Rattle.concepts.proofs.Verdicts.{element}
-use Rattle.std.proofs.lemmas.Bool.{or_cases, or_left, or_right, or_parts, and_parts, and_cases, and_from, false≢true, both_ways, eqb-true, ltb-false, cases_Bool}
+use Rattle.std.proofs.lemmas.Bool.{or_cases, or_left, or_right, or_parts, and_parts, and_cases, false≢true, both_ways, eqb-true, ltb-false}
 use Rattle.kinds.specs.Domain.{Domain}
 use Rattle.concepts.specs.declared.node.Node.{Node}
-use Rattle.concepts.specs.Concepts.{Concept, thing}
+use Rattle.concepts.specs.Concepts.{Concept}
 use Rattle.concepts.specs.Checks.{bad_field, bad_role, bad_atom, bad_count}
-use Rattle.concepts.specs.Tables.{is_nothing, is_prim, is_within, is_and, is_all, is_at_least, is_at_most, is_entry, values}
-use Rattle.concepts.specs.Weights.{rows_at}
+use Rattle.concepts.specs.Tables.{is_nothing, is_prim, is_within, is_and, is_all, is_at_least, is_at_most, is_entry}
 use Rattle.concepts.specs.WellFormed.{WellFormed}
-use Rattle.forms.specs.Labels.{Label, label, silent, join, least, here, under, writes}
-use Rattle.forms.specs.Tables.{then_role, Stands, root, rows_of}
-use Rattle.forms.specs.Finished.{Finished, Shut}
+use Rattle.forms.specs.Labels.{Label, label, silent, least, here, under}
+use Rattle.forms.specs.Tables.{then_role, root, rows_of}
+use Rattle.forms.specs.Finished.{Shut}
 use Rattle.forms.specs.Laid.{Closing}
-use Rattle.forms.specs.Sheets.{Form, child, onward, find, row_label, label_of, sheet_form, plain_form, both_forms, below_role, under_form, form_of, node_form}
+use Rattle.forms.specs.Sheets.{Form, find, label_of, sheet_form, plain_form, both_forms, below_role, under_form, form_of}
 use Rattle.forms.specs.Seen.{entries}
 use Rattle.forms.specs.Keeping.{Sheet, Keeps}
 use Rattle.forms.specs.Walks.{Narrow, whole_form}
@@ -88,7 +87,7 @@ module _ {R V : Type 0} (k : Domain R V) where
   quiet_cond true f g p q = p refl
   quiet_cond false f g p q = q
 
-  quiet_at : (fs : List (Form V)) → All Quiet fs → (i : ℕ) (d : Form V) → Quiet d → Quiet (get_or fs i d)
+  quiet_at : (fs : List (Form V)) → AllByRecursion Quiet fs → (i : ℕ) (d : Form V) → Quiet d → Quiet (get_or fs i d)
   quiet_at [] all i d p = p
   quiet_at (f ∷ fs) all zero d p = all.0
   quiet_at (f ∷ fs) all (suc i) d p = quiet_at fs all.1 i d p
@@ -131,7 +130,7 @@ module _ {R V : Type 0} (k : Domain R V) where
   quiet_value None h = quiet_plain silent refl
   quiet_value (Some f) h = h f refl
 
-  quiet_step : (S : ℕ → Option (Form V)) → ((p : ℕ) (f : Form V) → S p ≡ Some f → Quiet f) → ((below : List (Form V)) (n : Node R) → bad_field n ≡ false → All (λ f. Quiet f × Fronted f) below
+  quiet_step : (S : ℕ → Option (Form V)) → ((p : ℕ) (f : Form V) → S p ≡ Some f → Quiet f) → ((below : List (Form V)) (n : Node R) → bad_field n ≡ false → AllByRecursion (λ f. Quiet f × Fronted f) below
       → Quiet (form_of k S below n))
   quiet_step S held below n fine all =
       let at : (i : ℕ) → Quiet (get_or below i (plain_form k silent)) = λ i. quiet_at below (All-weaker _ _ (λ f p. p.0) below all) i (plain_form k silent) (quiet_plain silent refl) in
@@ -146,8 +145,8 @@ module _ {R V : Type 0} (k : Domain R V) where
       quiet_cond (is_at_most n) _ _ (λ t. quiet_number n.which _ (small_role n fine (or_right (is_all n) _ (or_right (is_at_least n) (is_at_most n) t)))) (
       quiet_cond (is_entry n) _ _ (λ t. quiet_value (S n.which) (held n.which)) (quiet_plain _ refl))))))))
 
-  quiet_folded : (S : ℕ → Option (Form V)) → ((p : ℕ) (f : Form V) → S p ≡ Some f → Quiet f × Fronted f) → (acc : List (Form V)) (nodes : List (Node R)) → All (λ n. bad_field n ≡ false) nodes → All (λ f. Quiet f × Fronted f) acc
-      → All (λ f. Quiet f × Fronted f) (fold (λ below n. below ++ (form_of k S below n ∷ [])) acc nodes)
+  quiet_folded : (S : ℕ → Option (Form V)) → ((p : ℕ) (f : Form V) → S p ≡ Some f → Quiet f × Fronted f) → (acc : List (Form V)) (nodes : List (Node R)) → AllByRecursion (λ n. bad_field n ≡ false) nodes → AllByRecursion (λ f. Quiet f × Fronted f) acc
+      → AllByRecursion (λ f. Quiet f × Fronted f) (fold (λ below n. below ++ (form_of k S below n ∷ [])) acc nodes)
   quiet_folded S held acc [] fine all = all
   quiet_folded S held acc (n ∷ ns) fine all =
       quiet_folded S held (acc ++ (form_of k S acc n ∷ [])) ns fine.1
@@ -164,10 +163,10 @@ module _ {R V : Type 0} (k : Domain R V) where
       subst (λ (x : Form V). Quiet x × Fronted x) q (quiet_sheet z.0 (rows_of e (block_of front back p)) z.1 z.4, fronted_sheet (rows_of e (block_of front back p)) z.1 k))
       (keeps p)
 
-  fine_fields : (held : List (Option ℕ)) (nodes : List (Node R)) → WellFormed held nodes → All (λ n. bad_field n ≡ false) nodes
+  fine_fields : (held : List (Option ℕ)) (nodes : List (Node R)) → WellFormed held nodes → AllByRecursion (λ n. bad_field n ≡ false) nodes
   fine_fields held nodes fine = go (element nodes 0 fine.some)
     where
-      go : (x : Node R) × (x ≡ get_or nodes 0 x) → All (λ n. bad_field n ≡ false) nodes
+      go : (x : Node R) × (x ≡ get_or nodes 0 x) → AllByRecursion (λ n. bad_field n ≡ false) nodes
       go x = All-from_get_or (λ n. bad_field n ≡ false) nodes x.0 (λ i l. fine.faultless.fields i (get_or nodes i x.0) (l, get_or_default nodes i x.0 (get_or nodes i x.0) l))
 
   pub quiet_whole : (e : Row R) (held : List (Option ℕ)) (front back : List (Row R)) (E : ℕ → Option (Concept R)) (nodes : List (Node R)) → Keeps k e held front back E → WellFormed held nodes

@@ -1,5 +1,5 @@
 -- Which rows of a table a place has. Assumes nothing.
-use Rattle.std.specs.Prelude.{ℕ, ◌+◌, ◌-◌, ◌*◌, ◌/◌, cond, List, [], length, take, drop, ◌==◌, nat_lt}
+use Rattle.std.specs.Prelude.{ℕ, ◌-◌, ◌*◌, ◌/◌, cond, List, [], length, take, drop, ◌==◌, nat_lt}
 
 module _ {X : Type 0} where
   -- a place has 128 rows in turn, as far as they go

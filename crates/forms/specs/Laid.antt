@@ -1,9 +1,9 @@
 -- Tables on the way to a finished form: every written path with a row, then with its numbers settled. Assumes nothing.
-use Rattle.std.specs.Prelude.{◌≡◌, ℕ, ◌<◌, Bool, true, false, ◌⊎◌, List, [], ◌∷◌, ◌++◌, Some, None, Option}
+use Rattle.std.specs.Prelude.{◌≡◌, ℕ, ◌<◌, Bool, true, false, ◌⊎◌, List, [], Some, None}
 use Rattle.kinds.specs.Domain.{Domain}
 use Rattle.forms.specs.Labels.{Label}
 use Rattle.forms.specs.Tables.{then_role, Stands, Before}
-use Rattle.forms.specs.Finished.{Topmost, Dead, Shut, Open}
+use Rattle.forms.specs.Finished.{Topmost, Shut, Open}
 use Rattle.forms.specs.declared.row.Row.{Row}
 
 module _ {R V : Type 0} (k : Domain R V) (f : List ℕ → Label V) (w : List ℕ → Bool) where

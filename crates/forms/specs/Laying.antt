@@ -1,8 +1,8 @@
 -- Rows laid one after another, in the order of their paths. Assumes nothing.
-use Rattle.std.specs.Prelude.{◌≡◌, ℕ, ◌+◌, ◌<◌, ◌≤◌, Bool, true, false, ◌⊎◌, List, [], ◌∷◌, ◌++◌, length, take}
+use Rattle.std.specs.Prelude.{◌≡◌, ℕ, ◌+◌, ◌<◌, Bool, true, ◌⊎◌, List}
 use Rattle.kinds.specs.Domain.{Domain}
 use Rattle.forms.specs.Labels.{Label}
-use Rattle.forms.specs.Tables.{then_role, Stands, Before}
+use Rattle.forms.specs.Tables.{Stands, Before}
 use Rattle.forms.specs.Finished.{Topmost, Open}
 use Rattle.forms.specs.declared.row.Row.{Row}
 

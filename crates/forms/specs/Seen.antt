@@ -1,5 +1,5 @@
 -- What is found at a path of a form. Assumes nothing.
-use Rattle.std.specs.Prelude.{◌≡◌, ℕ, ◌<◌, ◌≤◌, Bool, true, false, ◌&&◌, List, [], ◌∷◌, ◌++◌, length, Some, None, Option, ◌==◌, nat_lt}
+use Rattle.std.specs.Prelude.{◌≡◌, ℕ, ◌<◌, ◌≤◌, Bool, false, ◌&&◌, List, [], ◌∷◌, length, Some, None, Option, ◌==◌, nat_lt}
 use Rattle.std.specs.Option.{option_map}
 use Rattle.kinds.specs.Domain.{Domain}
 use Rattle.masks.specs.Masks.{has}

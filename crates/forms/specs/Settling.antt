@@ -1,5 +1,5 @@
 -- What it is to settle the numbers of a table of rows. Assumes nothing.
-use Rattle.std.specs.Prelude.{◌≡◌, ℕ, ◌≤◌, Bool, true, false, ◌⊎◌, List, [], length, get_or, Some, slice_index_or}
+use Rattle.std.specs.Prelude.{◌≡◌, ℕ, ◌≤◌, Bool, true, false, ◌⊎◌, List, [], length, Some, slice_index_or}
 use Rattle.kinds.specs.Domain.{Domain, Empty}
 use Rattle.forms.specs.Labels.{Label}
 use Rattle.forms.specs.Finished.{Dead}
@@ -43,4 +43,4 @@ module _ {R V : Type 0} (k : Domain R V) where
     pub size : length ys ≡ length xs
     pub kept : (e : Row R) (c : ℕ) → Kept (slice_index_or xs c e) (slice_index_or ys c e)
     pub past : (e : Row R) (c : ℕ) → n ≤ c → slice_index_or ys c e ≡ slice_index_or xs c e
-    pub comes : (e : Row R) (f : List ℕ → Label V) (w : List ℕ → Bool) → Ready f w (λ c. get_or xs c e) n (λ c. get_or ds c false) → Comes f w (λ c. get_or ys c e) n r
+    pub comes : (e : Row R) (f : List ℕ → Label V) (w : List ℕ → Bool) → Ready f w (λ c. slice_index_or xs c e) n (λ c. slice_index_or ds c false) → Comes f w (λ c. slice_index_or ys c e) n r

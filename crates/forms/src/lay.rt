@@ -1,5 +1,5 @@
 // Laying the rows of a description, one for each path that it writes, in the order of the paths.
-ghost use Rattle.std.specs.Prelude.{◌≡◌, ℕ, ◌<◌, ◌≤◌, length, drop, set, IfSome, slice_set};
+ghost use Rattle.std.specs.Prelude.{◌≡◌, ℕ, ◌<◌, ◌≤◌, length, drop, IfSome, slice_set};
 ghost use Rattle.concepts.specs.WellFormed.{WellFormed};
 ghost use Rattle.forms.specs.Seen.{Stocked};
 ghost use Rattle.forms.specs.Tables.{rows_of};

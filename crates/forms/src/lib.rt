@@ -1,4 +1,6 @@
 // Normal forms of concepts: what a description asks at each role path, as a table of rows.
+#![tactic(auto)]
+
 pub mod build;
 pub mod built;
 mod find;

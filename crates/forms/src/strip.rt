@@ -1,6 +1,6 @@
 // Taking away the rows below an upper number 0, in place.
 ghost use Rattle.std.specs.Prelude.{◌≡◌, ℕ, ◌<◌, ◌≤◌, length, slice_index_or};
-ghost use Rattle.forms.specs.Stripping.{is_zero, Hung, Strips};
+ghost use Rattle.forms.specs.Stripping.{is_zero as is_zero_upper, Hung, Strips};
 
 use crate::row::Row;
 use kinds::kind::Kind;
@@ -17,7 +17,7 @@ fn at<T: Copy>(items: &[T], i: u8, past: T) -> T
 
 // Whether nothing is allowed.
 fn is_zero(upper: Option<u16>) -> bool
-    ensures { result ≡ is_zero upper }
+    ensures { result ≡ is_zero_upper upper }
 {
     match upper {
         None => false,

@@ -1,5 +1,5 @@
 -- The kind of choices: sets of the codes 0 to 63. Assumes nothing.
-use Rattle.std.specs.Prelude.{ℕ, Bool, ◌&&◌, nat_lt, refl}
+use Rattle.std.specs.Prelude.{Bool, nat_lt, refl}
 use Rattle.std.proofs.lemmas.Bool.{and_parts}
 use Rattle.masks.specs.Masks.{has}
 use Rattle.kinds.specs.Domain.{Domain}

@@ -1,10 +1,10 @@
 -- The digits of a number in base two. Assumes nothing.
-use Rattle.std.proofs.Common.{◌≡◌, ℕ, zero, suc, ◌+◌, ◌-◌, ◌*◌, ◌/◌, ◌%◌, ◌^◌, ◌<◌, ◌≤◌, Bool, true, false, not, ◌&&◌, ◌||◌, eqb, ltb, ◌⊎◌, Decides, sym, refl, ap, ◌∙◌, ap₂, inl, inr, ⊎_elim, mul_comm, add-mul, one-mul, pow-suc, arith, lit<}
+use Rattle.std.proofs.Common.{◌≡◌, ℕ, zero, suc, ◌+◌, ◌-◌, ◌*◌, ◌/◌, ◌%◌, ◌^◌, ◌<◌, Bool, true, false, not, ◌&&◌, ◌||◌, eqb, ltb, ◌⊎◌, Decides, sym, refl, ap, ◌∙◌, ap₂, inl, inr, ⊎_elim, mul_comm, add-mul, one-mul, pow-suc, arith, lit<}
 use native.Mathlib.Nat.{div-div-eq-div-mul, zero-div}
 use lib.Bits.{bit_and, bit_or}
 use lib.Count.{count_trailing_zeros, under}
-use Rattle.std.proofs.lemmas.Nat.{and_le_l, and_shr, and_mod, or_shr, or_mod, pow_pos, pow-add, div-mul-add, mod_below, shr_split, shr-shr, shl-shr, div_below, pow_below}
-use Rattle.std.proofs.lemmas.Bool.{both_ways, and_parts, and_from, and_left, and_right, and_cases, cases_Bool, eqb-true, eqb-false, eq-eqb, ne_eqb, ltb-true, ltb-false, lt-ltb, not-true, not_from_true, not_from_false}
+use Rattle.std.proofs.lemmas.Nat.{and_shr, and_mod, or_shr, or_mod, pow_pos, pow-add, div-mul-add, mod_below, shr_split, shl-shr, div_below, pow_below}
+use Rattle.std.proofs.lemmas.Bool.{both_ways, and_parts, and_from, and_left, and_right, cases_Bool, eqb-true, eqb-false, eq-eqb, ne_eqb, ltb-true, ltb-false, lt-ltb, not_from_true, not_from_false}
 use Rattle.std.proofs.lemmas.Bool.Decides.{nat_tests, Decides-like}
 use Rattle.masks.specs.Masks.{digit, has}
 

@@ -1,4 +1,6 @@
 // Sets of numbers below 64, as the bits of a `u64`: bit k, worth 2^k, stands for k.
+#![tactic(auto)]
+
 ghost use Rattle.std.specs.Prelude.{◌≡◌, Decides};
 ghost use Rattle.masks.specs.Masks.{has as has_bit, Common, Joined, Lacking, None as Nothing, Subset, Member, Full, Single};
 

@@ -1,6 +1,6 @@
 -- What a comparison answers, and what restrictions admit together. Assumes nothing.
 use Rattle.std.specs.Prelude.{◌≡◌, true, List, Decides}
-use Rattle.std.specs.List.{AllByRecursion as All}
+use Rattle.std.specs.List.{AllByRecursion}
 use Rattle.kinds.specs.Domain.{Domain, Within, Apart}
 use Rattle.matching.specs.declared.verdict.Verdict.{Verdict}
 use Rattle.matching.specs.declared.verdict.Verdict.TheVariants.{Suits, Refuses}
@@ -13,7 +13,7 @@ module _ {R V : Type 0} (k : Domain R V) where
 
   -- v is a reading, and each of rs admits it
   abbrev pub Admitted : List R → V → Type 0
-  Admitted rs v = (k.reads v ≡ true) × All (λ r. k.admits r v ≡ true) rs
+  Admitted rs v = (k.reads v ≡ true) × AllByRecursion (λ r. k.admits r v ≡ true) rs
 
   -- r admits just what all of rs admit
   abbrev pub MeetsAll : List R → R → Type 0

@@ -1,5 +1,7 @@
 // Worked examples, which are run.
+#![tactic(auto)]
+
 #[cfg(test)]
 mod descriptions;
 #[cfg(test)]
-mod forms;
+mod normal_forms;

@@ -1,4 +1,4 @@
-use Rattle.std.proofs.Common.{ℕ, Bool, List, subst}
+use Rattle.std.proofs.Common.{Bool, subst}
 use Rattle.forms.specs.Tables.{rows_of}
 use Rattle.forms.specs.Settling.{Comes}
 use Rattle.forms.specs.Walks.{flags_of}

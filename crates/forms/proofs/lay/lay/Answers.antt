@@ -1,11 +1,10 @@
-use Rattle.std.proofs.Common.{◌≡◌, ℕ, ◌+◌, ◌-◌, ◌<◌, ◌≤◌, List, [], ◌∷◌, ◌++◌, length, take, drop, set, Some, None, sym, refl, ap, ◌∙◌, subst, arith, length-set, rules}
+use Rattle.std.proofs.Common.{◌≡◌, ◌+◌, ◌-◌, ◌<◌, ◌≤◌, [], ◌++◌, length, take, drop, set, Some, None, sym, refl, ap, ◌∙◌, subst, arith, length-set, rules}
 use Rattle.std.proofs.lemmas.List.{take-take, take_more_set, take-append-drop, length-take-le}
 use Rattle.forms.specs.Laying.{Next, Final}
 use Rattle.forms.specs.Seen.{Seen}
 use Rattle.forms.specs.Sheets.{find}
 use Rattle.forms.specs.Tables.{then_role, rows_of}
-use Rattle.forms.specs.Walks.{Proper, whole_form, LaidOut}
-use Rattle.forms.specs.declared.row.Row.{Row}
+use Rattle.forms.specs.Walks.{whole_form}
 use Rattle.forms.proofs.Finding.{find_below}
 use Rattle.forms.proofs.Fronts.{fronted_whole}
 use Rattle.forms.proofs.Lining.{LaidTo, row_with, lined_first, lined_more, lined_final, lined_full, front_found}
@@ -75,8 +74,8 @@ returns g c =
           lined_final k f fronted e c.loop-n.rows c.loop-n.dead c.loop-n.n _ laid (lined_full k f fronted e c.loop-n.rows c.loop-n.dead c.loop-n.n _ laid proper c.loop-n-test.false);
     }
 
-pub returns-in-default : goal.returns-in-default
-returns-in-default g c =
+pub returns-in_default : goal.returns-in_default
+returns-in_default g c =
     let k = g.K.Kind.domain in
     let whole : c.loop-n.depth - 0 ≡ c.loop-n.depth = omega arith in
     record {
@@ -85,11 +84,11 @@ returns-in-default g c =
           let f = whole_form k e c.args.held.now c.args.sheets.front.now c.args.sheets.back.now c.args.nodes.now in
           let fronted = fronted_whole k e c.args.held.now c.args.sheets.front.now c.args.sheets.back.now c.args.nodes.now in
           lined_final k f fronted e c.loop-n.rows c.loop-n.dead c.loop-n.n (take c.loop-n.depth c.loop-n.path) (c.loop-n.invariant.5 e proper)
-          (subst (λ z. Final f.on (take z c.loop-n.path)) whole (c.in-default.ensures.ahead e proper.narrow));
+          (subst (λ z. Final f.on (take z c.loop-n.path)) whole (c.in_default.ensures.ahead e proper.narrow));
     }
 
-pub returns-in-default-find : goal.returns-in-default-find
-returns-in-default-find g c =
+pub returns-in_default-find : goal.returns-in_default-find
+returns-in_default-find g c =
     let k = g.K.Kind.domain in
     let d = c.in-Some.d in
     let P = c.loop-n.path in
@@ -102,12 +101,12 @@ returns-in-default-find g c =
           let f = whole_form k e c.args.held.now c.args.sheets.front.now c.args.sheets.back.now c.args.nodes.now in
           let fronted = fronted_whole k e c.args.held.now c.args.sheets.front.now c.args.sheets.back.now c.args.nodes.now in
           let cut : take depth P ≡ take d P ++ drop d (take depth P) = sym (take-append-drop d (take depth P)) ∙ ap (λ z. z ++ drop d (take depth P)) (take-take d depth P inside) in
-          let none : find (rows_of e c.loop-n.rows) c.loop-n.n (take d P) 0 ≡ None = subst (λ z. find (rows_of e c.loop-n.rows) c.loop-n.n (take z P) 0 ≡ None) front (sym (c.find.ensures e) ∙ c.in-default-find.is) in
+          let none : find (rows_of e c.loop-n.rows) c.loop-n.n (take d P) 0 ≡ None = subst (λ z. find (rows_of e c.loop-n.rows) c.loop-n.n (take z P) 0 ≡ None) front (sym (c.find.ensures e) ∙ c.in_default-find.is) in
           absurd (front_found k f fronted e c.loop-n.rows c.loop-n.dead c.loop-n.n (take depth P) (c.loop-n.invariant.5 e proper) (take d P) (drop d (take depth P)) cut none);
     }
 
-pub overflow-cast-parent : goal.overflow-cast-parent
-overflow-cast-parent g c =
+pub overflow_cast-parent : goal.overflow_cast-parent
+overflow_cast-parent g c =
     let e = row_with c.look-first.result.label 0 0 in
     let below : c.in-Some-find.parent < c.loop-n.n = find_below (rows_of e c.loop-n.rows) c.loop-n.n (take (c.in-Some.d - 0) c.loop-n.path) c.in-Some-find.parent c.loop-n.invariant.0 (sym c.in-Some-find.is ∙ c.find.ensures e) in
     search rules

@@ -20,7 +20,7 @@ loop-d-preserved g c =
           let w = (whole_form g.K.Kind.domain e c.args.held.now c.args.sheets.front.now c.args.sheets.back.now c.args.nodes.now).on in
           let inside : c.loop-d.d - 1 ≤ length c.args.path.now = omega arith in
           early_turn w narrow (fronted_whole g.K.Kind.domain e c.args.held.now c.args.sheets.front.now c.args.sheets.back.now c.args.nodes.now).fronts c.args.path.now (c.loop-d.d - 1) inside
-          (c.in-default.ensures e narrow) (subst (λ d. Early w c.args.path.now d) (sym back) (c.loop-d.invariant.1 e narrow)),
+          (c.in_default.ensures e narrow) (subst (λ d. Early w c.args.path.now d) (sym back) (c.loop-d.invariant.1 e narrow)),
     )
 
 pub returns-in-Some : goal.returns-in-Some

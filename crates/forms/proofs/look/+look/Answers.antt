@@ -69,8 +69,8 @@ returns-in-8 g t c e =
     seen_as k (node_form_at k S _ nodes c.requires.fine.faultless _ n (c.requires.node, c.index-nodes-i.is))
     (seen_as k (form_entry k S (values (form_of k S) nodes) n c.in-8.is) (c.entry.ensures e))
 
-pub returns-in-default : goal.returns-in-default
-returns-in-default g t c e =
+pub returns-in_default : goal.returns-in_default
+returns-in_default g t c e =
     let k = g.K.Kind.domain in
     let nodes = c.args.nodes.now in
     let n = c.index-nodes-i.result in

@@ -6,8 +6,8 @@ use Rattle.forms.specs.Blocks.{block_of}
 use Rattle.forms.proofs.Sights.{seen_held, seen_unheld}
 use Rattle.forms.proofs.look.entry.Goals as goal
 
-pub in-sheet-requires : goal.in-sheet-requires
-in-sheet-requires g c =
+pub in_sheet-requires : goal.in_sheet-requires
+in_sheet-requires g c =
     let stock = c.requires c.args.place c.in-Some.n (sym c.in-Some.ensures) in
     record { some = stock.0; rows = subst (λ xs. c.in-Some.n ≤ length xs) (sym c.of.ensures.value) stock.1 }
 
@@ -16,7 +16,7 @@ returns-in-Some g c e =
     let k = g.K.Kind.domain in
     let xs = block_of c.args.sheets.front.now c.args.sheets.back.now c.args.place in
     seen_held k _ (λ m. sheet_form k (rows_of e xs) m) c.in-Some.n _ _ _ c.in-Some.ensures
-    (subst (λ ys. Seen k (sheet_form k (rows_of e ys) c.in-Some.n) c.args.path.now c.in-sheet.result.label c.in-sheet.result.roles) c.of.ensures.value (c.in-sheet.ensures e))
+    (subst (λ ys. Seen k (sheet_form k (rows_of e ys) c.in-Some.n) c.args.path.now c.in_sheet.result.label c.in_sheet.result.roles) c.of.ensures.value (c.in_sheet.ensures e))
 
 pub returns-in-None : goal.returns-in-None
 returns-in-None g c e =

@@ -15,14 +15,14 @@ found g c =
     let x = (element c.args.rows.now 0 (omega arith)).0 in
     find_below (rows_of x c.args.rows.now) _ _ _ c.requires.some (c.in-Some.ensures x)
 
-pub offset-bounds-rows-c : goal.offset-bounds-rows-c
-offset-bounds-rows-c g c = omega (arith, found g c)
+pub offset_bounds-rows-c : goal.offset_bounds-rows-c
+offset_bounds-rows-c g c = omega (arith, found g c)
 
 pub bounds-rows-c : goal.bounds-rows-c
 bounds-rows-c g c = omega (arith, found g c)
 
-pub roles-below-requires : goal.roles-below-requires
-roles-below-requires g c = record {
+pub roles_below-requires : goal.roles_below-requires
+roles_below-requires g c = record {
   rows = c.requires.rows;
   row = find_below (rows_of c.index-rows-c.result c.args.rows.now) _ _ _ c.requires.some (c.in-Some.ensures c.index-rows-c.result);
 }
@@ -33,8 +33,8 @@ returns-in-Some g c e =
     let T = rows_of e c.args.rows.now in
     let below : c.in-Some.c < c.args.n = find_below T _ _ _ c.requires.some (c.in-Some.ensures e) in
     seen_row k T _ _ _ _ c.in-Some.c (c.in-Some.ensures e)
-    (subst (λ x. Holds k c.of-row.result (row_label k x)) (get_or_read c.args.rows.now c.in-Some.c c.index-rows-c.result (omega arith) c.index-rows-c.is e) c.of-row.ensures)
-    (c.roles-below.ensures e)
+    (subst (λ x. Holds k c.of_row.result (row_label k x)) (get_or_read c.args.rows.now c.in-Some.c c.index-rows-c.result (omega arith) c.index-rows-c.is e) c.of_row.ensures)
+    (c.roles_below.ensures e)
 
 pub returns-in-None : goal.returns-in-None
 returns-in-None g c e = seen_no_row g.K.Kind.domain (rows_of e c.args.rows.now) _ _ _ _ (c.in-None.ensures e) c.unwritten.ensures.label c.unwritten.ensures.roles

@@ -26,16 +26,16 @@ pub returns-in-6 : goal.returns-in-6
 returns-in-6 g c s fs a b d =
     let k = g.K.Kind.domain in
     let n = c.args.node.now in
-    seen_as k (form_at_least k s fs n c.in-6.is) (c.counted.ensures (a_lower n.count) c.at-least.ensures)
+    seen_as k (form_at_least k s fs n c.in-6.is) (c.counted.ensures (a_lower n.count) c.at_least.ensures)
 
 pub returns-in-7 : goal.returns-in-7
 returns-in-7 g c s fs a b d =
     let k = g.K.Kind.domain in
     let n = c.args.node.now in
-    seen_as k (form_at_most k s fs n c.in-7.is) (c.counted-in-7.ensures (an_upper n.count) c.at-most.ensures)
+    seen_as k (form_at_most k s fs n c.in-7.is) (c.counted-in-7.ensures (an_upper n.count) c.at_most.ensures)
 
-pub returns-in-default : goal.returns-in-default
-returns-in-default g c s fs a b d =
+pub returns-in_default : goal.returns-in_default
+returns-in_default g c s fs a b d =
     let k = g.K.Kind.domain in
     let n = c.args.node.now in
     let p : is_nothing n ≡ false = search rules in
@@ -43,4 +43,4 @@ returns-in-default g c s fs a b d =
     let u : is_within n ≡ false = search rules in
     let v : is_at_least n ≡ false = search rules in
     let w : is_at_most n ≡ false = search rules in
-    seen_as k (form_thing k s fs n p q u a b v w d) (c.plain-in-default.ensures silent c.silent.ensures)
+    seen_as k (form_thing k s fs n p q u a b v w d) (c.plain-in_default.ensures silent c.silent.ensures)

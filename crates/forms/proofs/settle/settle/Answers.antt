@@ -45,7 +45,7 @@ returns-else-dead g c =
     let ys = c.loop-c.rows in
     let same : (e : Row g.row.K.Denot) → get_or ys 0 c.index-rows-0.result ≡ get_or ys 0 e = λ e. get_or_default ys 0 c.index-rows-0.result e (omega (arith, c.loop-c.auto.rows)) in
     going_all k _ _ _ _ _ _ c.loop-c.invariant c.loop-c-test.false _
-    (λ e h. inr (subst (λ x. Empty k x.restriction) (same e) (c.is-empty.ensures.law.0 h)))
+    (λ e h. inr (subst (λ x. Empty k x.restriction) (same e) (c.is_empty.ensures.law.0 h)))
     (λ e h. ⊎_elim
     (λ x. both_ways _ c.if-dead.false x)
-    (λ x. not_from_Decides _ c.is-empty.ensures.law h (subst (λ y. Empty k y.restriction) (sym (same e)) x)))
+    (λ x. not_from_Decides _ c.is_empty.ensures.law h (subst (λ y. Empty k y.restriction) (sym (same e)) x)))

@@ -2,5 +2,5 @@ use Rattle.kinds.proofs.choice.ChoiceKind.is_empty.Goals as goal
 
 pub returns : goal.returns
 returns c =
-    let d = c.is-none.ensures in
+    let d = c.is_none.ensures in
     record { law = (λ h v. d.0 h v.0, λ all. d.1 (λ k. all (record { 0 = k }))) }

@@ -1,21 +1,13 @@
-use Rattle.std.proofs.Common.{w32, SFits, rules}
-use Rattle.std.proofs.lemmas.Int.{to_z-of_z}
+use Rattle.std.proofs.Common.{rules}
+use Rattle.kinds.specs.Domain.{Meet}
+use Rattle.kinds.specs.Spans.{span_domain, Ends}
+use Rattle.kinds.specs.declared.span.Span.{Span}
 use Rattle.kinds.proofs.Ints.{met_by}
 use Rattle.kinds.proofs.span.SpanKind.meet.Goals as goal
 
-pub returns : goal.returns
-returns c =
-    let s = c.args.self in
-    let o = c.args.other in
-    let f : SFits w32 s.low = search rules in
-    let g : SFits w32 s.high = search rules in
-    let h : SFits w32 o.low = search rules in
-    let k : SFits w32 o.high = search rules in
-    let m : SFits w32 c.max.result = search rules in
-    let n : SFits w32 c.min.result = search rules in
-    let low = simp to_z-of_z at c.max.ensures.value in
-    let high = simp to_z-of_z at c.min.ensures.value in
-    record {
-      law = simp to_z-of_z (met_by s.low s.high o.low o.high c.max.result c.min.result low high);
-      ends = simp to_z-of_z (low, high);
-    }
+-- a span with the larger low and the smaller high end admits what both admit
+met : (a b r : Span) → Ends a b r → Meet span_domain a b r
+met a b r ends = met_by a.low a.high b.low b.high r.low r.high ends.0 ends.1
+
+pub returns-clause-law : goal.returns-clause-law
+returns-clause-law c = met c.args.self c.args.other _ (search rules)

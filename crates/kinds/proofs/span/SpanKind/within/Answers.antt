@@ -12,7 +12,7 @@ returns-then-other-self c =
     let g : SFits w32 s.high = search rules in
     let h : SFits w32 o.low = search rules in
     let k : SFits w32 o.high = search rules in
-    let some = filled s.low s.high (not_from_Decides _ c.is-empty.ensures.law c.if-is-empty.false) in
+    let some = filled s.low s.high (not_from_Decides _ c.is_empty.ensures.law c.if-is_empty.false) in
     let low = simp to_z-of_z at c.if-other-self.true in
     record { law = simp to_z-of_z (within_high s.low s.high o.low o.high g some low) }
 
@@ -22,6 +22,6 @@ returns-else-other-self c =
     let o = c.args.other.now in
     let f : SFits w32 s.low = search rules in
     let h : SFits w32 o.low = search rules in
-    let some = filled s.low s.high (not_from_Decides _ c.is-empty.ensures.law c.if-is-empty.false) in
+    let some = filled s.low s.high (not_from_Decides _ c.is_empty.ensures.law c.if-is_empty.false) in
     let low = simp to_z-of_z at c.if-other-self.false in
     record { law = simp to_z-of_z (within_low s.low s.high o.low o.high f some low) }

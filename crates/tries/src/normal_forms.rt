@@ -55,12 +55,23 @@ fn expect(
     rows: &mut [Row<Span>],
     n: usize,
 ) -> Result<(), Fail> {
+    expect_noted(rt, nodes, rows, n, "rows")
+}
+
+// The same, with a remark that a failure is reported with.
+fn expect_noted(
+    rt: &impl Abort,
+    nodes: &[Node<Span>],
+    rows: &mut [Row<Span>],
+    n: usize,
+    note: &str,
+) -> Result<(), Fail> {
     let none = [BLANK; 1];
     let sheets = Sheets {
         front: &none[0..0],
         back: &none[0..0],
     };
-    assert_eq!(rt; built(nodes, &[], sheets, rows), n);
+    assert_eq!(rt; built(nodes, &[], sheets, rows), n, "{note}");
     Ok(())
 }
 
@@ -76,7 +87,8 @@ fn numbers(rt: HostRuntime) -> Result<(), Fail> {
     assert_eq!(rt; shape(rows[0]), (0, 0, 0, None, 0));
     expect(&rt, &[node(AT_LEAST, 2, 3, 0, 0)], &mut rows, 2)?;
     assert_eq!(rt; shape(rows[1]), (0, 2, 3, None, 0));
-    expect(&rt, &[node(AT_LEAST, 2, 0, 0, 0)], &mut rows, 2).note("a row that says nothing stays")?;
+    let silent = [node(AT_LEAST, 2, 0, 0, 0)];
+    expect_noted(&rt, &silent, &mut rows, 2, "a row that says nothing stays")?;
     let larger = [
         node(AT_LEAST, 0, 3, 0, 0),
         node(AT_MOST, 0, 3, 0, 0),
@@ -121,7 +133,7 @@ fn dead_rows(rt: HostRuntime) -> Result<(), Fail> {
         node(AT_MOST, 1, 2, 0, 0),
         node(AND, 0, 0, 0, 1),
     ];
-    expect(&rt, &clash, &mut rows, 0).note("contradictory")?;
+    expect_noted(&rt, &clash, &mut rows, 0, "contradictory")?;
     let below = [
         node(AT_LEAST, 1, 3, 0, 0),
         node(AT_MOST, 1, 2, 0, 0),
@@ -130,7 +142,7 @@ fn dead_rows(rt: HostRuntime) -> Result<(), Fail> {
         node(AND, 0, 0, 2, 3),
         node(ALL, 4, 0, 4, 0),
     ];
-    expect(&rt, &below, &mut rows, 2).note("the row below is stripped")?;
+    expect_noted(&rt, &below, &mut rows, 2, "the row below is stripped")?;
     assert_eq!(rt; shape(rows[1]), (0, 4, 0, Some(0), 0));
     assert_eq!(rt; rows[1].restriction.admits(-5), true);
     Ok(())
