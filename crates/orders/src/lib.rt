@@ -1,5 +1,7 @@
 // Covers of a finite order, and its transitive reduction. A table has a mask for each of 64 places:
 // the mask at p has q where p lies below q.
+#![tactic(auto)]
+
 ghost use Rattle.std.specs.Prelude.{◌≡◌, ℕ, ◌<◌, Decides};
 ghost use Rattle.masks.specs.Masks.{has as has_bit};
 ghost use Rattle.orders.specs.Reductions.{strictly, Nearest, Reduction};

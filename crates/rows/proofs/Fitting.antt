@@ -1,12 +1,11 @@
 -- Rows held against a table of groups: each row that is reached has its group, and the table meets the rows exactly where every group suits its row. Assumes nothing.
-use Rattle.std.proofs.Common.{◌≡◌, ℕ, zero, suc, ◌+◌, ◌<◌, ◌≤◌, true, false, ◌⊎◌, Some, None, Option, sym, refl, ap, ◌∙◌, subst, inl, inr, ⊎_elim, arith}
-use Rattle.std.proofs.lemmas.Bool.{cases_lt}
+use Rattle.std.proofs.Common.{◌≡◌, ℕ, zero, suc, ◌+◌, ◌<◌, ◌≤◌, true, Some, None, Option, sym, refl, ap, ◌∙◌, subst, arith}
 use Rattle.kinds.specs.Domain.{Domain}
 use Rattle.masks.specs.Masks.{has}
 use Rattle.concepts.specs.Interpretations.{Interpretation, how_many}
-use Rattle.rows.specs.Numbers.{Under, Allows}
+use Rattle.rows.specs.Numbers.{Allows}
 use Rattle.rows.specs.Tables.{Meets, meets}
-use Rattle.rows.specs.Groups.{total, owner, hangs, owner_below, world_of}
+use Rattle.rows.specs.Groups.{total, owner, owner_below, world_of}
 use Rattle.rows.specs.declared.row.Row.{Row}
 use Rattle.rows.specs.declared.group.Group.{Group}
 use Rattle.rows.proofs.Groups.{copy, hangs_parts, hangs_from, Alone, fillers, fillers_none}

@@ -1,7 +1,7 @@
 -- What lower and upper numbers allow. Assumes nothing.
-use Rattle.std.proofs.Common.{◌≡◌, ℕ, ◌<◌, ◌≤◌, max, true, false, eqb, Some, None, Decides, Option, sym, refl, subst, inl, inr, ⊎_elim, arith}
-use Rattle.std.proofs.lemmas.Bool.{false≢true, eq-eqb, eqb-true, leb-true, cases_lt}
-use Rattle.rows.specs.Numbers.{Under, Allows, ClosesOff, in_order}
+use Rattle.std.proofs.Common.{◌≡◌, ℕ, ◌≤◌, max, true, false, eqb, Some, None, Decides, Option, sym, subst, arith}
+use Rattle.std.proofs.lemmas.Bool.{false≢true, eq-eqb, eqb-true, leb-true}
+use Rattle.rows.specs.Numbers.{ClosesOff, in_order}
 
 -- some filler is allowed unless the upper number is 0
 pub open_above : (lo : ℕ) → ClosesOff lo None → ⊥

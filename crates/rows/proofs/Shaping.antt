@@ -1,9 +1,9 @@
 -- Rows that may each stand where they do stand in the order of their paths, and the other way round. Assumes nothing.
-use Rattle.std.proofs.Common.{◌≡◌, ℕ, zero, suc, ◌+◌, ◌<◌, ◌≤◌, Bool, true, false, cond, not, ◌&&◌, ◌||◌, eqb, ltb, leb, ◌⊎◌, List, [], ◌∷◌, ◌++◌, length, is_some, Some, None, Option, sym, refl, ap, ◌∙◌, subst, inl, inr, ⊎_elim, append_assoc, append-nil, arith, length-append}
-use Rattle.std.proofs.lemmas.Bool.{both_ways, false≢true, and_parts, and_from, or_cases, or_left, or_right, lt-ltb, ltb-true, le-leb, leb-true, eq-eqb, ne_eqb, eqb-true, cond-true, cond-false, cases_eq, cases_lt, cases_order}
+use Rattle.std.proofs.Common.{◌≡◌, ℕ, zero, suc, ◌<◌, ◌≤◌, Bool, true, not, ◌&&◌, eqb, ltb, leb, ◌⊎◌, List, [], ◌∷◌, ◌++◌, length, is_some, Some, None, Option, sym, refl, ap, ◌∙◌, subst, inl, inr, ⊎_elim, append_assoc, append-nil, arith}
+use Rattle.std.proofs.lemmas.Bool.{false≢true, and_parts, and_from, or_cases, or_left, or_right, lt-ltb, ltb-true, le-leb, leb-true, eq-eqb, ne_eqb, eqb-true, cond-false, cases_eq, cases_lt, cases_order}
 use Rattle.rows.specs.Numbers.{Under, in_order, Limited, limited}
-use Rattle.rows.specs.Tables.{then_role, Stands, root, below, Before, shorter, lower_role, later}
-use Rattle.rows.specs.Shapes.{Shape, every, precedes, clear, top_fine, later_fine, row_fine}
+use Rattle.rows.specs.Tables.{then_role, Stands, below, Before, shorter, lower_role, later}
+use Rattle.rows.specs.Shapes.{Shape, every, precedes, clear, later_fine, row_fine}
 use Rattle.rows.specs.declared.row.Row.{Row}
 use Rattle.rows.proofs.Standing.{stands_by, front_of, stands_once, before_apart}
 use Rattle.rows.proofs.Rooted.{Earlier, Single, parent_path}

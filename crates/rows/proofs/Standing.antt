@@ -1,5 +1,5 @@
 -- At which path a row stands, and in which order paths come. Assumes nothing.
-use Rattle.std.proofs.Common.{◌≡◌, ℕ, ◌<◌, ◌⊎◌, List, [], ◌∷◌, ◌++◌, length, sym, refl, ap, ◌∙◌, subst, inl, inr, ⊎_elim, arith}
+use Rattle.std.proofs.Common.{◌≡◌, ℕ, ◌<◌, ◌⊎◌, List, [], ◌∷◌, ◌++◌, length, sym, refl, ap, ◌∙◌, inl, inr, ⊎_elim, arith}
 use Rattle.rows.specs.Tables.{then_role, Stands, root, below, Before, shorter, lower_role, later}
 use Rattle.rows.specs.declared.row.Row.{Row}
 

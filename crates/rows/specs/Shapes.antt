@@ -1,5 +1,5 @@
 -- Rows as they come from anywhere, and when they are well formed. Assumes nothing.
-use Rattle.std.specs.Prelude.{◌≡◌, ℕ, zero, suc, ◌<◌, ◌≤◌, Bool, true, cond, not, ◌&&◌, ◌||◌, List, length, is_some, Some, None, Option, ◌==◌, nat_le, nat_lt}
+use Rattle.std.specs.Prelude.{◌≡◌, ℕ, zero, suc, ◌<◌, ◌≤◌, Bool, true, cond, not, ◌&&◌, ◌||◌, List, length, is_some, None, ◌==◌, nat_le, nat_lt}
 use Rattle.kinds.specs.Domain.{Domain, Empty}
 use Rattle.rows.specs.Numbers.{Under, Limited, in_order, limited}
 use Rattle.rows.specs.Tables.{Stands, Before, Topmost, rows_of}

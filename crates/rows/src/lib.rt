@@ -1,4 +1,6 @@
 // Tables of rows and tables of groups: what a description asks along role paths, and what models are made of.
+#![tactic(auto)]
+
 pub mod bounds;
 pub mod facts;
 pub mod form;

@@ -1,5 +1,5 @@
 -- Comparing one row with what is given at its path. Assumes nothing.
-use Rattle.std.proofs.Common.{◌≡◌, ℕ, ◌<◌, ◌≤◌, ◌⊎◌, List, length, get_or, Some, None, Ok, Err, Option, Result, sym, refl, ap, subst, subst₂, inl, inr, ⊎_elim, arith}
+use Rattle.std.proofs.Common.{◌≡◌, ℕ, ◌<◌, List, length, get_or, Some, None, Ok, Err, Option, Result, sym, subst, subst₂, arith}
 use Rattle.kinds.specs.Domain.{Domain}
 use Rattle.rows.specs.Numbers.{Allows, ClosesOff, Beyond}
 use Rattle.rows.specs.declared.row.Row.{Row}

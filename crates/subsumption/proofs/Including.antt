@@ -1,5 +1,5 @@
 -- Where no row of the second form asks for more than the first gives, all that meets the first meets the second. Assumes nothing.
-use Rattle.std.proofs.Common.{◌≡◌, ℕ, zero, suc, ◌+◌, ◌<◌, ◌≤◌, true, false, ◌⊎◌, Some, None, Option, sym, refl, ap, ◌∙◌, subst, inl, inr, ⊎_elim, arith}
+use Rattle.std.proofs.Common.{◌≡◌, ℕ, zero, suc, ◌+◌, ◌<◌, ◌≤◌, true, Some, None, Option, sym, subst, arith}
 use Rattle.std.proofs.lemmas.Bool.{false≢true}
 use Rattle.kinds.specs.Domain.{Domain}
 use Rattle.masks.specs.Masks.{has}
@@ -9,10 +9,9 @@ use Rattle.rows.specs.Hanging.{child_in}
 use Rattle.rows.specs.Numbers.{Allows}
 use Rattle.rows.specs.Tables.{Meets, meets}
 use Rattle.rows.specs.declared.row.Row.{Row}
-use Rattle.rows.proofs.Hanging.{Hangs, child_some}
+use Rattle.rows.proofs.Hanging.{child_some}
 use Rattle.rows.proofs.Rooted.{Earlier}
-use Rattle.subsumption.specs.Given.{Given, gives, row_gives, silent, Counted, Shut, Marked, Read, shut, room}
-use Rattle.subsumption.specs.Inclusion.{Included}
+use Rattle.subsumption.specs.Given.{gives, Marked, Read, shut, room}
 use Rattle.subsumption.specs.Matches.{hooks, match_of, Reaches, below_row, below_none, Step, passed, met, Matched}
 use Rattle.subsumption.specs.declared.gap.Match.{Match}
 use Rattle.subsumption.specs.declared.gap.Match.TheVariants.{At, Absent, Passed}

@@ -1,15 +1,15 @@
 -- The readings and atoms of slots. Assumes nothing.
-use Rattle.std.proofs.Common.{◌≡◌, ℕ, ◌<◌, ◌≤◌, Bool, true, false, eqb, List, length, get_or, Some, None, Option, sym, refl, ap, ◌∙◌, subst, ⊎_elim}
+use Rattle.std.proofs.Common.{◌≡◌, ℕ, ◌<◌, ◌≤◌, Bool, true, false, eqb, List, length, get_or, sym, refl, ap, ◌∙◌}
 use Rattle.std.proofs.lemmas.List.{get_or_read}
-use Rattle.std.proofs.lemmas.Bool.{both_ways, eq-eqb, ne_eqb, eqb-true, eqb-false}
+use Rattle.std.proofs.lemmas.Bool.{eqb-true, eqb-false}
 use Rattle.kinds.specs.Domain.{Domain, Whole, Member, Separates}
 use Rattle.masks.specs.Masks.{has}
 use Rattle.masks.proofs.Digits.{has_zero}
 use Rattle.rows.specs.Tables.{rows_of}
 use Rattle.rows.specs.declared.row.Row.{Row}
-use Rattle.subsumption.specs.Given.{Given, gives, row_gives, silent, Sample, Outside}
+use Rattle.subsumption.specs.Given.{gives, Sample, Outside}
 use Rattle.subsumption.specs.Outcome.{matches_of}
-use Rattle.subsumption.specs.Slots.{slot_of, own, given_at, Picked}
+use Rattle.subsumption.specs.Slots.{slot_of, given_at, Picked}
 use Rattle.subsumption.specs.Written.{Picks, LikenessIs}
 use Rattle.subsumption.specs.declared.countermodel.Likeness.{Likeness}
 use Rattle.subsumption.specs.declared.gap.Match.{Match}

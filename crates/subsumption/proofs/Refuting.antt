@@ -1,24 +1,23 @@
 -- The groups that are written along the way to a row that asks for more are a countermodel. Assumes nothing.
-use Rattle.std.proofs.Common.{◌≡◌, ℕ, zero, suc, ◌+◌, ◌-◌, ◌<◌, ◌≤◌, max, Bool, true, false, ◌⊎◌, Some, None, Option, sym, refl, ap, ◌∙◌, subst, inl, inr, ⊎_elim, arith}
-use Rattle.std.proofs.lemmas.Bool.{both_ways, false≢true, cases_Bool, cases_lt, cases_eq}
+use Rattle.std.proofs.Common.{◌≡◌, ℕ, zero, suc, ◌+◌, ◌<◌, ◌≤◌, max, Bool, true, false, ◌⊎◌, Some, None, Option, sym, refl, ap, ◌∙◌, subst, inl, inr, ⊎_elim, arith}
+use Rattle.std.proofs.lemmas.Bool.{both_ways, cases_Bool, cases_lt, cases_eq}
 use Rattle.kinds.specs.Domain.{Domain}
 use Rattle.masks.specs.Masks.{has}
-use Rattle.rows.specs.Groups.{owner, total_some, WellFormed, world}
+use Rattle.rows.specs.Groups.{owner, total_some, WellFormed}
 use Rattle.rows.specs.Numbers.{Under, Allows, ClosesOff, Limited}
 use Rattle.rows.specs.Shapes.{Shape, Coherent}
-use Rattle.rows.specs.Tables.{Meets}
 use Rattle.rows.specs.declared.group.Group.{Group}
 use Rattle.rows.specs.declared.row.Row.{Row}
-use Rattle.rows.proofs.Fitting.{none_some, some_same, Lone, Kin, kin, heads, Suits, Fitting, Trail, origin, onward, Fault, unsuited, miscounted, fitting_meets, fault_fails}
+use Rattle.rows.proofs.Fitting.{some_same, Lone, Kin, heads, Suits, Fitting, Trail, origin, onward, Fault, unsuited, miscounted, fitting_meets, fault_fails}
 use Rattle.rows.proofs.Groups.{owner_first}
 use Rattle.rows.proofs.RowFacts.{well_formed_lone, well_formed_peopled}
-use Rattle.subsumption.specs.Census.{Stated, Census}
-use Rattle.subsumption.specs.Given.{Given, gives, row_gives, silent, Shut, Marked, Read, Sample, Outside, Lacks, count, atoms, reading}
+use Rattle.subsumption.specs.Census.{Census}
+use Rattle.subsumption.specs.Given.{Given, gives, row_gives, silent, Shut, Read, Sample, Outside, Lacks, count, atoms, reading}
 use Rattle.subsumption.specs.Inclusion.{Countermodel}
 use Rattle.subsumption.specs.Matches.{match_of, Stops, at_first, at_row}
 use Rattle.subsumption.specs.Slots.{slot_of, own, ancestor, parent_of, role_of, Lineage, Forced, amount, given_at, heads_at, Picked}
 use Rattle.subsumption.specs.declared.gap.Match.{Match}
-use Rattle.subsumption.specs.declared.gap.Match.TheVariants.{At, Absent, Passed}
+use Rattle.subsumption.specs.declared.gap.Match.TheVariants.{At}
 use Rattle.subsumption.specs.declared.gap.Need.{Need}
 use Rattle.subsumption.specs.declared.gap.Need.TheVariants.{Count, Atoms, Reading}
 use Rattle.subsumption.proofs.Counting as counting

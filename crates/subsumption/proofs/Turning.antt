@@ -1,9 +1,9 @@
 -- Going through the rows of the second form, one after another. Assumes nothing.
-use Rattle.std.proofs.Common.{◌≡◌, ℕ, ◌+◌, ◌<◌, ◌≤◌, ◌⊎◌, List, length, get_or, set, Some, None, Option, sym, refl, ap, ◌∙◌, subst, inl, inr, ⊎_elim, arith}
-use Rattle.std.proofs.lemmas.List.{get_or_read, get_or-set_same, get_or-set_other, length-set}
+use Rattle.std.proofs.Common.{◌≡◌, ℕ, ◌+◌, ◌<◌, ◌≤◌, List, length, get_or, set, None, Option, sym, ◌∙◌, subst, ⊎_elim, arith}
+use Rattle.std.proofs.lemmas.List.{get_or_read, get_or-set_same, get_or-set_other}
 use Rattle.std.proofs.lemmas.Bool.{cases_lt}
 use Rattle.kinds.specs.Domain.{Domain}
-use Rattle.rows.specs.Shapes.{Shape, Shaped}
+use Rattle.rows.specs.Shapes.{Shaped}
 use Rattle.rows.specs.Tables.{rows_of}
 use Rattle.rows.specs.declared.row.Row.{Row}
 use Rattle.subsumption.specs.Given.{row_gives, gives, Marked, Read, Met, shut, room, Lacks}

@@ -1,17 +1,16 @@
 -- The way to a row that asks for more, slot by slot. Assumes nothing.
-use Rattle.std.proofs.Common.{◌≡◌, ℕ, zero, suc, ◌+◌, ◌-◌, ◌<◌, ◌≤◌, max, true, false, cond, ltb, ◌⊎◌, Some, None, Option, sym, refl, ap, ◌∙◌, subst, inl, inr, ⊎_elim, arith}
+use Rattle.std.proofs.Common.{◌≡◌, ℕ, zero, suc, ◌+◌, ◌-◌, ◌<◌, ◌≤◌, ltb, ◌⊎◌, Some, None, Option, sym, refl, ap, ◌∙◌, subst, inl, inr, ⊎_elim, arith}
 use Rattle.std.proofs.lemmas.Bool.{lt-ltb, le-ltb, cond-true, cond-false, cases_lt, cases_eq}
 use Rattle.kinds.specs.Domain.{Domain}
 use Rattle.rows.specs.Hanging.{child_in}
 use Rattle.rows.specs.Shapes.{Shape}
 use Rattle.rows.specs.declared.row.Row.{Row}
-use Rattle.rows.proofs.Fitting.{none_some, some_same}
-use Rattle.rows.proofs.Hanging.{Hangs, child_some, child_none}
-use Rattle.rows.proofs.Rooted.{Single}
+use Rattle.rows.proofs.Fitting.{none_some}
+use Rattle.rows.proofs.Hanging.{child_some, child_none}
 use Rattle.rows.proofs.Shaping.{single}
-use Rattle.subsumption.specs.Given.{Given, gives, row_gives, silent, Shut, Lacks, shut, room}
+use Rattle.subsumption.specs.Given.{gives, Shut, Lacks, shut, room}
 use Rattle.subsumption.specs.Matches.{hooks, match_of, Reaches, below_row, below_none, Step, passed, met, Matched, Stops, at_first, at_row}
-use Rattle.subsumption.specs.Slots.{slot_of, own, ancestor, parent_of, role_of, Lineage, amount, given_at, heads_at}
+use Rattle.subsumption.specs.Slots.{slot_of, own, ancestor, parent_of, role_of, Lineage}
 use Rattle.subsumption.specs.declared.gap.Match.{Match}
 use Rattle.subsumption.specs.declared.gap.Match.TheVariants.{At, Absent, Passed}
 use Rattle.subsumption.specs.declared.gap.Need.{Need}

@@ -1,5 +1,5 @@
 -- What is answered of two forms. Assumes nothing.
-use Rattle.std.specs.Prelude.{◌≡◌, ℕ, ◌<◌, ◌≤◌, Bool, true, List, length}
+use Rattle.std.specs.Prelude.{◌≡◌, Bool, true, List, length}
 use Rattle.kinds.specs.Domain.{Domain}
 use Rattle.rows.specs.Shapes.{Coherent}
 use Rattle.rows.specs.Tables.{rows_of}

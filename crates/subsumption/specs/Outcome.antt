@@ -1,7 +1,6 @@
 -- What comparing one row with another, and going through all rows, comes to. Assumes nothing.
-use Rattle.std.specs.Prelude.{◌≡◌, ℕ, ◌<◌, List, length, Some, None, Ok, Err, Option, Result, slice_index_or}
+use Rattle.std.specs.Prelude.{◌≡◌, ℕ, ◌<◌, List, Some, None, Ok, Err, Option, Result, slice_index_or}
 use Rattle.kinds.specs.Domain.{Domain}
-use Rattle.rows.specs.Tables.{rows_of}
 use Rattle.rows.specs.declared.row.Row.{Row}
 use Rattle.subsumption.specs.Given.{Given, gives, Met, Lacks}
 use Rattle.subsumption.specs.Matches.{match_of, Reaches, Step, Matched, Stops}

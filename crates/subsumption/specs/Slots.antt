@@ -1,5 +1,5 @@
 -- The paths of two forms side by side: the rows of the first, and then those rows of the second whose paths it lacks. Assumes nothing.
-use Rattle.std.specs.Prelude.{◌≡◌, ℕ, zero, suc, ◌+◌, ◌-◌, ◌<◌, max, true, false, cond, List, Some, None, Option, ◌≢◌, nat_lt, slice_index}
+use Rattle.std.specs.Prelude.{◌≡◌, ℕ, zero, suc, ◌+◌, ◌-◌, ◌<◌, max, cond, List, Some, None, Option, ◌≢◌, nat_lt, slice_index}
 use Rattle.kinds.specs.Domain.{Domain}
 use Rattle.rows.specs.declared.row.Row.{Row}
 use Rattle.subsumption.specs.Given.{Given, gives, Sample, Outside}

@@ -1,12 +1,9 @@
 -- What the parts of a countermodel are, as they are written. Assumes nothing.
-use Rattle.std.specs.Prelude.{◌≡◌, ℕ, ◌+◌, ◌<◌, ◌≤◌, Bool, true, false, List, length, get_or, Option}
+use Rattle.std.specs.Prelude.{◌≡◌, ℕ, Bool, true, false, List, length}
 use Rattle.kinds.specs.Domain.{Domain, Member, Separates}
 use Rattle.masks.specs.Masks.{has}
-use Rattle.rows.specs.Groups.{groups_of}
 use Rattle.rows.specs.Tables.{rows_of}
-use Rattle.rows.specs.declared.group.Group.{Group}
 use Rattle.rows.specs.declared.row.Row.{Row}
-use Rattle.subsumption.specs.Census.{Stated, Census}
 use Rattle.subsumption.specs.Outcome.{matches_of}
 use Rattle.subsumption.specs.Slots.{slot_of, parent_of, role_of, given_at, heads_at, Picked, force_of}
 use Rattle.subsumption.specs.declared.countermodel.Likeness.{Likeness}

@@ -11,9 +11,9 @@ pub loop-p-preserved : goal.loop-p-preserved
 loop-p-preserved c =
     let lt : c.loop-p.p < length c.loop-p.steps = omega (arith, c.loop-p.invariant.0) in
     let small : c.loop-p.p < 64 = omega arith in (
-      length-set c.loop-p.steps c.loop-p.p c.covers-of.result ∙ c.loop-p.invariant.0,
-      table_more (Nearest c.args.under.now) c.loop-p.steps c.loop-p.p c.covers-of.result lt c.loop-p.invariant.1
-          (λ q. Decides-like _ (λ x. x.1) (λ x. (small, x)) (c.covers-of.ensures q)),
+      length-set c.loop-p.steps c.loop-p.p c.covers_of.result ∙ c.loop-p.invariant.0,
+      table_more (Nearest c.args.under.now) c.loop-p.steps c.loop-p.p c.covers_of.result lt c.loop-p.invariant.1
+          (λ q. Decides-like _ (λ x. x.1) (λ x. (small, x)) (c.covers_of.ensures q)),
     )
 
 pub returns : goal.returns

@@ -3,7 +3,7 @@ use Rattle.rows.proofs.Hanging.{ahead_start, ahead_more, ahead_found, ahead_none
 use Rattle.rows.proofs.hung.child.Goals as goal
 
 pub loop-b-init : goal.loop-b-init
-loop-b-init g c = ahead_start g.T.Hung.hook c.args.table.now c.args.c c.args.role c.saturating-add-b.result 18446744073709551615 c.saturating-add-b.ensures (search rules)
+loop-b-init g c = ahead_start g.T.Hung.hook c.args.table.now c.args.c c.args.role c.saturating_add-b.result 18446744073709551615 c.saturating_add-b.ensures (search rules)
 
 pub loop-b-preserved : goal.loop-b-preserved
 loop-b-preserved g c =

@@ -18,12 +18,12 @@ pub loop-c-init : goal.loop-c-init
 loop-c-init g c = (
   simp length-set c.requires.room,
   λ e.
-      matched_first g.K.Kind.domain c.args.p.now c.args.q.now c.args.matches.now e c.index-p-0.result c.index-q-0.result c.in-default.field-0
-      c.requires.first c.requires.second (omega arith) c.index-p-0.is c.index-q-0.is c.in-default.ensures,
+      matched_first g.K.Kind.domain c.args.p.now c.args.q.now c.args.matches.now e c.index-p-0.result c.index-q-0.result c.in_default.field-0
+      c.requires.first c.requires.second (omega arith) c.index-p-0.is c.index-q-0.is c.in_default.ensures,
 )
 
-pub slice-copy-out·up : goal.slice-copy-out·up
-slice-copy-out·up g c =
+pub slice_copy_out-up : goal.slice_copy_out-up
+slice_copy_out-up g c =
     let row = c.index-q-c.result in
     let parent : row.parent < c.loop-c.c = subst (λ x. x.parent < c.loop-c.c) (sym c.index-q-c.is) ((c.requires.second.1 row).parents c.loop-c.c (omega arith) c.loop-c-test.true) in
     let few : length c.args.q.now ≤ 128 = shaped_few c.args.q.now c.requires.second in

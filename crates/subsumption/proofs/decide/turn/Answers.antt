@@ -1,18 +1,18 @@
-use Rattle.std.proofs.Common.{◌<◌, length, Some, sym, refl, subst, arith, rules}
+use Rattle.std.proofs.Common.{length, Some, sym, subst, arith, rules}
 use Rattle.rows.specs.Tables.{rows_of}
 use Rattle.subsumption.specs.Matches.{Reaches, Step, below_row, below_none, passed}
 use Rattle.subsumption.specs.declared.gap.Match.TheVariants.{Passed}
 use Rattle.subsumption.proofs.Comparing.{child_row, child_small, child_numbers, turned_none, turned_row}
 use Rattle.subsumption.proofs.decide.turn.Goals as goal
 
-pub offset-bounds-p-b : goal.offset-bounds-p-b
-offset-bounds-p-b g c = let w = child_row c.args.p.now c.in-At.a c.args.asked.now.role c.in-Some.b c.requires.shaped c.in-Some.ensures.value in omega (arith, w.1)
+pub offset_bounds-p-b : goal.offset_bounds-p-b
+offset_bounds-p-b g c = let w = child_row c.args.p.now c.in-At.a c.args.asked.now.role c.in-Some.b c.requires.shaped c.in-Some.ensures.value in omega (arith, w.1)
 
 pub bounds-p-b : goal.bounds-p-b
 bounds-p-b g c = (child_row c.args.p.now c.in-At.a c.args.asked.now.role c.in-Some.b c.requires.shaped c.in-Some.ensures.value).1
 
-pub overflow-cast-b : goal.overflow-cast-b
-overflow-cast-b g c = let l = child_small c.args.p.now c.in-At.a c.args.asked.now.role c.in-Some.b c.requires.shaped c.in-Some.ensures.value in search rules
+pub overflow_cast-b : goal.overflow_cast-b
+overflow_cast-b g c = let l = child_small c.args.p.now c.in-At.a c.args.asked.now.role c.in-Some.b c.requires.shaped c.in-Some.ensures.value in search rules
 
 pub against-requires-in-Some : goal.against-requires-in-Some
 against-requires-in-Some g c =

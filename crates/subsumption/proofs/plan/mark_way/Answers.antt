@@ -1,11 +1,11 @@
-use Rattle.std.proofs.Common.{◌≡◌, ℕ, ◌<◌, ◌≤◌, List, length, get_or, replicate, sym, refl, ap, ◌∙◌, subst, arith, length-set}
+use Rattle.std.proofs.Common.{◌≡◌, ℕ, ◌<◌, ◌≤◌, List, length, get_or, replicate, refl, ap, ◌∙◌, subst, arith, length-set}
 use Rattle.std.proofs.lemmas.List.{get_or_default}
 use Rattle.rows.specs.Shapes.{Shaped}
 use Rattle.rows.specs.Tables.{rows_of}
 use Rattle.rows.specs.declared.row.Row.{Row}
 use Rattle.rows.proofs.Clearing.{shaped_few}
 use Rattle.subsumption.specs.Outcome.{matches_of}
-use Rattle.subsumption.specs.Slots.{slot_of, force_of}
+use Rattle.subsumption.specs.Slots.{force_of}
 use Rattle.subsumption.proofs.Marking.{Marks, marks_first, marks_set, marks_all, zeros}
 use Rattle.subsumption.proofs.plan.mark_way.Goals as goal
 

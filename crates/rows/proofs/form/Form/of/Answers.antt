@@ -4,34 +4,34 @@ use Rattle.std.proofs.lemmas.Bool.Decides.{not_from_Decides}
 use Rattle.rows.proofs.Clearing.{fine_shaped, shaped_few, shaped_fine}
 use Rattle.rows.proofs.form.Form.of.Goals as goal
 use Rattle.rows.proofs.form.Form.of.Goals.{
-  then-is-empty-via-then-is-empty,
-  then-is-empty-via-else-is-empty+then-rows-gt-MOST-ROWS,
-  then-is-empty-via-else-is-empty+else-rows-gt-MOST-ROWS+then-not-all-stand,
+  then-is_empty-via-then-is_empty,
+  then-is_empty-via-else-is_empty+then-rows-gt-MOST_ROWS,
+  then-is_empty-via-else-is_empty+else-rows-gt-MOST_ROWS+then-not-all_stand,
 }
 
-pub returns-then-is-empty : goal.returns-then-is-empty
-returns-then-is-empty g c =
+pub returns-then-is_empty : goal.returns-then-is_empty
+returns-then-is_empty g c =
     let xs = c.args.rows.now in
     record {
       answer = (
         λ e. absurd (false≢true e),
-        λ shaped. absurd (elim c.then-is-empty.branch [
-          | then-is-empty-via-then-is-empty w ↦ omega (arith, shaped.0, eqb-true (length xs) 0 (sym w.if-is-empty.ensures))
-          | then-is-empty-via-else-is-empty+then-rows-gt-MOST-ROWS w ↦ omega (arith, shaped_few xs shaped, w.if-rows-gt-MOST-ROWS.true)
-          | then-is-empty-via-else-is-empty+else-rows-gt-MOST-ROWS+then-not-all-stand w ↦ not_from_Decides _ w.all-stand.ensures w.if-not-all-stand.true (shaped_fine xs shaped)
+        λ shaped. absurd (elim c.then-is_empty.branch [
+          | then-is_empty-via-then-is_empty w ↦ omega (arith, shaped.0, eqb-true (length xs) 0 (sym w.if-is_empty.ensures))
+          | then-is_empty-via-else-is_empty+then-rows-gt-MOST_ROWS w ↦ omega (arith, shaped_few xs shaped, w.if-rows-gt-MOST_ROWS.true)
+          | then-is_empty-via-else-is_empty+else-rows-gt-MOST_ROWS+then-not-all_stand w ↦ not_from_Decides _ w.all_stand.ensures w.if-not-all_stand.true (shaped_fine xs shaped)
         ]),
       );
       rows = tt;
     }
 
-pub invariant-of-result : goal.invariant-of-result
-invariant-of-result g c = (some, (c.if-rows-gt-MOST-ROWS.false, (c.all-stand.ensures.0 c.if-not-all-stand.false, tt)))
+pub invariant_of-result : goal.invariant_of-result
+invariant_of-result g c = record { some = some; few = c.if-rows-gt-MOST_ROWS.false; fine = c.all_stand.ensures.0 c.if-not-all_stand.false }
   where
     some : 0 < length c.args.rows.now
-    some = let ne = eqb-false (length c.args.rows.now) 0 (sym c.if-is-empty.ensures) in omega arith
+    some = let ne = eqb-false (length c.args.rows.now) 0 (sym c.if-is_empty.ensures) in omega arith
 
 pub returns : goal.returns
-returns g c = record { answer = (λ _. fine_shaped c.args.rows.now some c.if-rows-gt-MOST-ROWS.false (c.all-stand.ensures.0 c.if-not-all-stand.false), λ _. refl); rows = refl }
+returns g c = record { answer = (λ _. fine_shaped c.args.rows.now some c.if-rows-gt-MOST_ROWS.false (c.all_stand.ensures.0 c.if-not-all_stand.false), λ _. refl); rows = refl }
   where
     some : 0 < length c.args.rows.now
-    some = let ne = eqb-false (length c.args.rows.now) 0 (sym c.if-is-empty.ensures) in omega arith
+    some = let ne = eqb-false (length c.args.rows.now) 0 (sym c.if-is_empty.ensures) in omega arith
