@@ -37,9 +37,25 @@ module _ (H : ℕ → Hook) where
           (λ s. past (elim (cases_order b d) [ inl z ↦ absurd (s z) | inr z ↦ omega arith ]))
           (cases_eq b d)
 
+  -- nothing before the one that is found hangs there
+  child_from_nearest : (c r m b d i : ℕ) → child_from H c r m b ≡ Some d → b ≤ i → i < d → Hangs c r i → ⊥
+  child_from_nearest c r zero b d i e l h w = absurd (let z : ◌≡◌ {A = ℕ} 0 1 = cc in omega arith)
+  child_from_nearest c r (suc m) b d i e l h w = go (hangs_by (H b) c r) refl e (λ p q. child_from_nearest c r m (b + 1) d i p q h w)
+    where
+      go : (t : Bool) → hangs_by (H b) c r ≡ t → cond t (Some b) (child_from H c r m (b + 1)) ≡ Some d
+          → (child_from H c r m (b + 1) ≡ Some d → b + 1 ≤ i → ⊥) → ⊥
+      go true q p past = let s : b ≡ d = cc in absurd (omega arith)
+      go false q p past = ⊎_elim
+          (λ s. absurd (false≢true (sym q ∙ true_hangs c r b (subst (λ x. Hangs c r x) (sym s) w))))
+          (λ s. past p (elim (cases_order b i) [ inl z ↦ absurd (s z) | inr z ↦ omega arith ]))
+          (cases_eq b i)
+
   -- a child is a later one that hangs there
   pub child_some : (n c r d : ℕ) → child_in H n c r ≡ Some d → (c < d) × (d < n) × Hangs c r d
   child_some n c r d e = let w = child_from_some c r (n - (c + 1)) (c + 1) d e in (omega (arith, w.0), omega (arith, w.0, w.1), w.2)
+
+  pub child_nearest : (n c r d i : ℕ) → child_in H n c r ≡ Some d → c < i → i < d → Hangs c r i → ⊥
+  child_nearest n c r d i e l h w = child_from_nearest c r (n - (c + 1)) (c + 1) d i e (omega arith) h w
 
   pub child_finds : (n c r d : ℕ) → c < d → d < n → Hangs c r d → (x : ℕ) × (child_in H n c r ≡ Some x)
   child_finds n c r d l h w = child_from_finds c r (n - (c + 1)) (c + 1) d (omega arith) (omega arith) w

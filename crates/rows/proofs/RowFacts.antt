@@ -7,6 +7,7 @@ use Rattle.rows.specs.Theorems.{RowFacts}
 use Rattle.rows.specs.declared.group.Group.{Group}
 use Rattle.rows.proofs.Fitting.{Lone}
 use Rattle.rows.proofs.Groups as groups
+use Rattle.rows.proofs.Hanging.{child_some, child_nearest, child_none}
 use Rattle.rows.proofs.Shaping.{fine_shape, shape_fine, single}
 
 module _ {R V : Type 0} (k : Domain R V) where
@@ -29,6 +30,9 @@ module _ {R V : Type 0} (k : Domain R V) where
     shaped = λ T n some few fine. fine_shape T n some few fine;
     standing = λ T n shape. shape_fine T n shape;
     single = λ T n shape. single T n shape.parents shape.order;
+    found = λ hook n c r d e. let w = child_some hook n c r d e in (w.0, w.1, w.2.parent, w.2.role);
+    nearest = λ hook n c r d e i l h p q. child_nearest hook n c r d i e l h record { parent = p; role = q };
+    childless = λ hook n c r e i l h p q. child_none hook n c r e i l h record { parent = p; role = q };
     members = λ G n g l. groups.members G n g l;
     first = λ G n w. groups.owner_first G n w.some (well_formed_peopled G n w 0 w.some);
     fillers = λ G n w i g z l p.
