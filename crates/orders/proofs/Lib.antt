@@ -1,5 +1,5 @@
 pub mod Puts
-pub mod Rows
+mod Tables
 mod Reducing
 mod Counting
 mod Steps

@@ -1,8 +1,11 @@
 -- The nearest places above one: those strictly above it, without those strictly above one of them. Assumes nothing.
-use Rattle.std.proofs.Common.{◌≡◌, ℕ, ◌+◌, ◌<◌, ◌≤◌, true, false, not, eqb, ltb, ◌⊎◌, List, length, Decides, sym, ap, ◌∙◌, subst, inl, inr, ⊎_elim, arith}
+use Rattle.std.proofs.Common.{◌≡◌, ℕ, ◌<◌, ◌≤◌, Bool, true, false, cond, not, ◌&&◌, ◌||◌, eqb, ltb, List, [], ◌∷◌, length, get_or, filter, Decides, refl, sym, ap, ◌∙◌, ⊎_elim, arith, zero-add}
+use Rattle.std.specs.List.{Any, list_any, range_with_len}
 use Rattle.std.proofs.lemmas.List.{get_or_past}
-use Rattle.std.proofs.lemmas.Bool.{cases_eq, cases_lt, cases_Bool, both_ways, and_parts, and_from, or_cases, or_left, or_right, eqb-false, ne_eqb, ltb-true, not-true, not_from_false}
-use Rattle.masks.specs.Masks.{has, Joined, Lacking}
+use Rattle.std.proofs.lemmas.List.Folds.{list_any_at, Any-from_list_any}
+use Rattle.std.proofs.lemmas.List.FromFn.{get_or-range_with_len}
+use Rattle.std.proofs.lemmas.Bool.{cases_lt, cases_Bool, both_ways, and_parts, and_from, eqb-false, ne_eqb, ltb-true, not-true, not_from_false}
+use Rattle.masks.specs.Masks.{has, Lacking}
 use Rattle.masks.proofs.Digits.{has_zero}
 use Rattle.orders.specs.Reductions.{lies, strictly, Nearest}
 
@@ -16,46 +19,46 @@ strict_parts t p q b = let parts = and_parts (lies t p q) (not (eqb q p)) b in (
 strict_from : (t : List ℕ) (p q : ℕ) → lies t p q ≡ true → (q ≡ p → ⊥) → strictly t p q ≡ true
 strict_from t p q b ne = and_from (lies t p q) (not (eqb q p)) b (not_from_false _ (ne_eqb q p ne))
 
--- some place below i that is in the mask `above` lies strictly below q
-pub record Further (t : List ℕ) (above i q : ℕ) : Type 0 where
+-- some place that is in the mask `above` lies strictly below q
+pub record Further (t : List ℕ) (above q : ℕ) : Type 0 where
   pub place : ℕ
-  pub early : place < i
   pub taken : has above place ≡ true
   pub less : strictly t place q ≡ true
 
-module _ (t : List ℕ) (above : ℕ) where
-  pub further_none : (q : ℕ) → Decides (has 0 q) (Further t above 0 q)
-  further_none q = (λ b. absurd (both_ways _ (has_zero q) b), λ x. absurd (omega (arith, x.early)))
+-- m has what lies strictly above some of zs
+abbrev pub Beyond : List ℕ → List ℕ → ℕ → Type 0
+Beyond t zs m = (q : ℕ) → has m q ≡ list_any (λ z. strictly t z q) zs
 
-  later : (i q : ℕ) → Further t above i q → Further t above (i + 1) q
-  later i q x = record { place = x.place; early = omega (arith, x.early); taken = x.taken; less = x.less }
+module _ (t : List ℕ) (above m : ℕ) (all : Beyond t (filter (has above) (range_with_len 0 64)) m) (q : ℕ) where
+  abbrev less : ℕ → Bool
+  less z = strictly t z q
 
-  -- at i, or before
-  split : (i q : ℕ) → Further t above (i + 1) q → ((has above i ≡ true) × (strictly t i q ≡ true)) ⊎ Further t above i q
-  split i q x =
-      ⊎_elim
-      (λ same. inl (subst (λ (y : ℕ). has above y ≡ true) same x.taken, subst (λ (y : ℕ). strictly t y q ≡ true) same x.less))
-      (λ ne. inr record { place = x.place; early = omega (arith, x.early, ne); taken = x.taken; less = x.less })
-      (cases_eq x.place i)
+  abbrev between : ℕ → Bool
+  between z = has above z && less z
 
-  module _ (i m : ℕ) (all : (q : ℕ) → Decides (has m q) (Further t above i q)) where
-    pub further_more : (x r : ℕ) → has above i ≡ true → ((q : ℕ) → has x q ≡ strictly t i q) → Joined m x r → (q : ℕ) → Decides (has r q) (Further t above (i + 1) q)
-    further_more x r here own joined q = (
-      λ b. ⊎_elim
-          (λ old. later i q ((all q).0 old))
-          (λ new. record { place = i; early = omega arith; taken = here; less = sym (own q) ∙ new })
-          (or_cases (has m q) (has x q) (sym (joined q) ∙ b)),
-      λ f. joined q ∙ ⊎_elim (λ new. or_right (has m q) (has x q) (own q ∙ new.1)) (λ old. or_left (has m q) (has x q) ((all q).1 old)) (split i q f),
-    )
+  kept_one : (b : Bool) (z : ℕ) (zs : List ℕ) → list_any less (cond b (z ∷ zs) zs) ≡ ((b && less z) || list_any less zs)
+  kept_one true z zs = refl
+  kept_one false z zs = refl
 
-    pub further_skip : has above i ≡ false → (q : ℕ) → Decides (has m q) (Further t above (i + 1) q)
-    further_skip not_here q = (
-      λ b. later i q ((all q).0 b),
-      λ f. ⊎_elim (λ new. absurd (both_ways _ not_here new.0)) (all q).1 (split i q f),
-    )
+  kept : (zs : List ℕ) → list_any less (filter (has above) zs) ≡ list_any between zs
+  kept [] = refl
+  kept (z ∷ zs) = kept_one (has above z) z (filter (has above) zs) ∙ ap (λ b. between z || b) (kept zs)
+
+  found : Any (λ z. between z ≡ true) (range_with_len 0 64) → Further t above q
+  found x = let parts = and_parts (has above x.1) (less x.1) x.4 in record { place = x.1; taken = parts.0; less = parts.1 }
+
+  pub further_all : Decides (has m q) (Further t above q)
+  further_all = (
+    λ b. found (Any-from_list_any between (range_with_len 0 64) (sym (kept (range_with_len 0 64)) ∙ sym (all q) ∙ b)),
+    λ f.
+        let small : f.place < 64 = ltb-true f.place 64 (and_parts (ltb f.place 64) _ f.taken).0 in
+        let at : get_or (range_with_len 0 64) f.place 0 ≡ f.place = get_or-range_with_len 0 64 f.place 0 small ∙ zero-add f.place in
+        all q ∙ kept (range_with_len 0 64)
+        ∙ list_any_at between (range_with_len 0 64) f.place 0 small (ap between at ∙ and_from (has above f.place) (less f.place) f.taken f.less),
+  )
 
 module _ (t : List ℕ) (whole : length t ≡ 64) (p above m r : ℕ) (own : (q : ℕ) → has above q ≡ strictly t p q)
-    (further : (q : ℕ) → Decides (has m q) (Further t above 64 q)) (left : Lacking above m r) where
+    (further : (q : ℕ) → Decides (has m q) (Further t above q)) (left : Lacking above m r) where
   nearest_from : (q : ℕ) → strictly t p q ≡ true → has m q ≡ false → (p < 64) × Nearest t p q
   nearest_from q less none =
       let low = strict_parts t p q less in (
@@ -65,14 +68,13 @@ module _ (t : List ℕ) (whole : length t ≡ 64) (p above m r : ℕ) (own : (q 
           other = λ e. low.1 (sym e);
           nearest = λ z not_p not_q up over. both_ways (has m q) none ((further q).1 record {
             place = z;
-            early = ltb-true z 64 (and_parts (ltb z 64) _ up).0;
             taken = own z ∙ strict_from t p z up not_p;
             less = strict_from t z q over (λ e. not_q (sym e));
           });
         },
       )
 
-  nearest_to : (q : ℕ) → Nearest t p q → Further t above 64 q → ⊥
+  nearest_to : (q : ℕ) → Nearest t p q → Further t above q → ⊥
   nearest_to q x f =
       let up = strict_parts t p f.place (sym (own f.place) ∙ f.taken) in
       let over = strict_parts t f.place q f.less in

@@ -7,6 +7,7 @@ ghost use Rattle.masks.specs.Masks.{has as has_bit};
 ghost use Rattle.orders.specs.Reductions.{strictly, Nearest, Reduction};
 
 use masks::{has, joined, lacking, single};
+use std::array;
 
 pub mod facts;
 
@@ -14,11 +15,9 @@ pub mod facts;
 fn others(under: &[u64; 64], p: usize) -> u64
     ensures { (q : ℕ) → has_bit result q ≡ strictly under.now p q }
 {
-    if p < 64 {
-        lacking(under[p], single(p as u8))
-    } else {
-        0
-    }
+    under
+        .get(p)
+        .map_or(0, |mask| lacking(*mask, single(p as u8)))
 }
 
 // The places that cover `p`; none where `p` is above 63.
@@ -27,10 +26,8 @@ pub fn covers_of(under: &[u64; 64], p: usize) -> u64
 {
     let above = others(under, p);
     let mut further = 0;
-    for z in 0..64 {
-        if has(above, z) {
-            further = joined(further, others(under, z as usize));
-        }
+    for z in (0..64).filter(|z| has(above, *z)) {
+        further = joined(further, others(under, usize::from(z)));
     }
     lacking(above, further)
 }
@@ -39,9 +36,5 @@ pub fn covers_of(under: &[u64; 64], p: usize) -> u64
 pub fn reduce(under: &[u64; 64]) -> [u64; 64]
     ensures { Reduction under.now result }
 {
-    let mut steps = [0; 64];
-    for p in 0..64 {
-        steps[p] = covers_of(under, p);
-    }
-    steps
+    array::from_fn(|p| covers_of(under, p))
 }
