@@ -1,5 +1,5 @@
 -- What the words of a stock list mean. Assumes nothing.
-use Rattle.std.specs.Prelude.{◌≡◌, ℕ, ◌<◌, List, length, ℤ, codes, Decides, Option, MatchOption, FitsSigned, ◌≢◌, slice_index_or}
+use Rattle.std.specs.Prelude.{◌≡◌, ℕ, ◌<◌, List, length, ℤ, codes, Decides, Option, MatchOption, Result, MatchResult, FitsSigned, ◌≢◌, slice_index_or}
 use Rattle.std.specs.Borrow.{Bor}
 use Rattle.std.specs.Int.{w32}
 use Rattle.std.specs.Str.Parse.{IsNumeral, digits_value, without_leading_plus, without_leading_sign, signed_digits_value}
@@ -10,6 +10,8 @@ use Rattle.kinds.specs.declared.choice.Choice.{Choice}
 use Rattle.matching.specs.Texts.{Whole, Apart}
 use Rattle.matching.specs.declared.entry.Side.{Side}
 use Rattle.matching.specs.declared.entry.Side.TheVariants.{Shaft, Bore}
+use Rattle.matching.specs.declared.entry.Fault.{Fault}
+use Rattle.matching.specs.declared.entry.Fault.TheVariants.{NoSide}
 
 -- o is that of which P holds, and None where it holds of nothing
 abbrev pub Found : {X : Type 0} → (X → Type 0) → Option X → Type 0
@@ -19,6 +21,10 @@ Found {X} P o = MatchOption o ((x : X) → P x → ⊥) P
 abbrev pub word_of : Side → List ℕ
 word_of Shaft = codes "shaft"
 word_of Bore = codes "bore"
+
+-- r is the side whose word the text is, or `NoSide` where it is the word of none
+abbrev pub NamesSide : List ℕ → Result Side Fault → Type 0
+NamesSide text r = MatchResult r (λ s. text ≡ word_of s) (λ e. (e ≡ NoSide) × ((s : Side) → text ≢ word_of s))
 
 -- decimal digits, after a plus or a minus or neither, that write n, and n has 32 bits
 abbrev pub IsNumber : List ℕ → ℤ → Type 0

@@ -1,21 +1,40 @@
 // Reading a stock list: one line for each shaft and each bore.
-ghost use Rattle.std.specs.Prelude.{◌≡◌, ℕ, ◌<◌, ℤ, IfOk};
+ghost use Rattle.std.specs.Prelude.{◌≡◌, ℕ, ◌<◌, ℤ, List, IfOk};
 ghost use Rattle.matching.specs.Entries.{Read, Said};
 ghost use Rattle.matching.specs.Texts.{Whole, Apart};
-ghost use Rattle.matching.specs.Words.{Found, word_of, IsNumber, IsCode, Collected, Codes};
+ghost use Rattle.matching.specs.Words.{Found, IsNumber, IsCode, Collected, Codes};
 
-use kinds::choice::{Choice, Code};
+use kinds::choice::Choice;
 use kinds::kind::Kind;
 use kinds::pair::Pair;
 use kinds::span::Span;
 use masks::{joined, single};
 use std::alloc::{AllocError, Global};
+use std::error::Error;
+use std::fmt;
+use std::str::FromStr;
 
 // Which list an entry belongs to.
-#[derive(Clone, Copy)]
+#[derive(Clone, Copy, Debug, PartialEq, Eq)]
 pub enum Side {
     Shaft,
     Bore,
+}
+
+impl FromStr for Side {
+    type Err = Fault;
+
+    ghost use Rattle.matching.specs.Words.{NamesSide};
+
+    ghost from_str_gives = { NamesSide };
+
+    fn from_str(text: &str) -> Result<Side, Fault> {
+        match text {
+            "shaft" => Ok(Side::Shaft),
+            "bore" => Ok(Side::Bore),
+            _ => Err(Fault::NoSide),
+        }
+    }
 }
 
 // A shaft or a bore: its name, and the diameters and seal codes that its description admits.
@@ -27,7 +46,7 @@ pub struct Entry<'a> {
 }
 
 // Why a line can't be read: the first of these that holds.
-#[derive(Clone, Copy)]
+#[derive(Clone, Copy, Debug, PartialEq, Eq)]
 pub enum Fault {
     NotFiveWords,
     NoSide,
@@ -35,6 +54,20 @@ pub enum Fault {
     NoHigh,
     NoCodes,
 }
+
+impl fmt::Display for Fault {
+    fn fmt<W: fmt::Write>(&self, f: &mut fmt::Formatter<W>) -> fmt::Result {
+        f.write_str(match self {
+            Fault::NotFiveWords => "not five words",
+            Fault::NoSide => "neither shaft nor bore",
+            Fault::NoLow => "the low diameter is no number",
+            Fault::NoHigh => "the high diameter is no number",
+            Fault::NoCodes => "the codes are no list of 0 to 63",
+        })
+    }
+}
+
+impl Error for Fault {}
 
 // The pieces of a text between the characters `at`.
 fn pieces<'a>(heap: Global, text: &'a str, at: char) -> Result<Vec<&'a str>, AllocError>
@@ -45,34 +78,16 @@ fn pieces<'a>(heap: Global, text: &'a str, at: char) -> Result<Vec<&'a str>, All
     text.split(at).collect(heap)
 }
 
-fn read_side(text: &str) -> Option<Side>
-    ensures { Found (λ s. text.now ≡ word_of s) result }
-{
-    if text == "shaft" {
-        Some(Side::Shaft)
-    } else if text == "bore" {
-        Some(Side::Bore)
-    } else {
-        None
-    }
-}
-
 fn read_number(text: &str) -> Option<i32>
     ensures { Found (IsNumber text.now) result }
 {
-    match text.parse::<i32>() {
-        Ok(n) => Some(n),
-        Err(_) => None,
-    }
+    text.parse().ok()
 }
 
 fn read_code(text: &str) -> Option<u8>
     ensures { Found (IsCode text.now) result }
 {
-    match text.parse::<u8>() {
-        Ok(k) => { if k < 64 { Some(k) } else { None } }
-        Err(_) => None,
-    }
+    text.parse().ok().filter(|code| *code < 64)
 }
 
 fn read_list(list: &[&str]) -> Option<Choice>
@@ -80,62 +95,51 @@ fn read_list(list: &[&str]) -> Option<Choice>
 {
     let mut bits = 0;
     for text in list {
-        match read_code(text) {
-            Some(k) => bits = joined(bits, single(k)),
-            None => return None,
-        }
+        bits = joined(bits, single(read_code(text)?));
     }
     Some(Choice { bits })
 }
 
-fn read_codes(heap: Global, text: &str) -> Result<Option<Choice>, AllocError>
-    ensures { IfOk result (Codes text.now) }
+// What the pieces of a text between its commas say.
+fn read_codes(list: &[&str]) -> Option<Choice>
+    ensures { (text : List ℕ) → Whole 44 text list.now → Apart 44 list.now → Codes text result }
 {
-    if text == "any" {
-        return Ok(Some(Choice::whole()));
+    match list {
+        ["any"] => Some(Choice::whole()),
+        ["none"] => Some(Choice { bits: 0 }),
+        _ => read_list(list),
     }
-    if text == "none" {
-        return Ok(Some(Choice { bits: 0 }));
-    }
-    let list = pieces(heap, text, ',')?;
-    Ok(read_list(&list))
 }
 
 fn read_words<'a>(
-    heap: Global,
     side: &str,
     name: &'a str,
     low: &str,
     high: &str,
-    codes: &str,
-) -> Result<Result<Entry<'a>, Fault>, AllocError>
-    ensures { IfOk result (Read side.now name.now low.now high.now codes.now) }
+    codes: &[&str],
+) -> Result<Entry<'a>, Fault>
+    ensures { (text : List ℕ) → Whole 44 text codes.now → Apart 44 codes.now
+        → Read side.now name.now low.now high.now text result }
 {
-    let Some(side) = read_side(side) else {
-        return Ok(Err(Fault::NoSide));
-    };
-    let Some(low) = read_number(low) else {
-        return Ok(Err(Fault::NoLow));
-    };
-    let Some(high) = read_number(high) else {
-        return Ok(Err(Fault::NoHigh));
-    };
-    let Some(second) = read_codes(heap, codes)? else {
-        return Ok(Err(Fault::NoCodes));
-    };
+    let side = side.parse()?;
+    let low = read_number(low).ok_or(Fault::NoLow)?;
+    let high = read_number(high).ok_or(Fault::NoHigh)?;
+    let second = read_codes(codes).ok_or(Fault::NoCodes)?;
     let first = Span { low, high };
     let fit = Pair { first, second };
-    Ok(Ok(Entry { side, name, fit }))
+    Ok(Entry { side, name, fit })
 }
 
 // What a line says, or why it can't be read: `shaft` or `bore`, a name, the least and the greatest
 // diameter, and `any`, `none` or seal codes with commas between them; one blank between each two.
+// Want of memory is an error of its own, since it says nothing of the line.
 pub fn read_entry<'a>(heap: Global, line: &'a str) -> Result<Result<Entry<'a>, Fault>, AllocError>
     ensures answer { IfOk result (Said line.now) }
 {
     let words = pieces(heap, line, ' ')?;
-    match words.as_slice() {
-        [side, name, low, high, codes] => read_words(heap, side, name, low, high, codes),
-        _ => Ok(Err(Fault::NotFiveWords)),
-    }
+    let [side, name, low, high, codes] = words.as_slice() else {
+        return Ok(Err(Fault::NotFiveWords));
+    };
+    let codes = pieces(heap, codes, ',')?;
+    Ok(read_words(side, name, low, high, &codes))
 }

@@ -1,16 +1,14 @@
-use Rattle.std.proofs.Common.{vec_items, sym, ◌∙◌, subst}
-use Rattle.std.specs.Cmp.Lexicographic.{other_text}
-use Rattle.matching.specs.Words.{Collected}
+use Rattle.std.proofs.Common.{length, ap, arith, rules}
+use borrow.Author.Tests.{ltb-true, ltb-false}
+use Rattle.matching.proofs.Codes.{codes_listed}
 use Rattle.matching.proofs.entry.read_codes.Goals as goal
+use Rattle.matching.proofs.entry.read_codes.Goals.{in_default-via-then-list-lt1, in_default-via-else-list-lt1+then-list-lt2+in_default, in_default-via-else-list-lt1+else-list-lt2}
 
-pub returns : goal.returns
-returns c = record {
-  any = λ e. absurd (other_text _ _ (sym c.if-eq.false ∙ c.eq.ensures) e);
-  none = λ e. absurd (other_text _ _ (sym c.if-eq-2.false ∙ c.eq-2.ensures) e);
-  list = λ x y. (
-    vec_items c.in_ok-list.list,
-    c.in_ok-list.ensures.whole,
-    c.in_ok-list.ensures.apart,
-    subst (λ ps. Collected ps c.read_list.result) c.deref.ensures.value c.read_list.ensures,
-  );
-}
+pub returns-in_default : goal.returns-in_default
+returns-in_default c =
+    let listed = codes_listed c.args.list.now c.read_list.result c.read_list.ensures in
+    elim c.in_default.branch [
+      | in_default-via-then-list-lt1 w ↦ listed (λ p e _. omega (arith, ltb-true, ap length e)) (λ p e _. omega (arith, ltb-true, ap length e))
+      | in_default-via-else-list-lt1+then-list-lt2+in_default w ↦ listed (λ p e f. search rules) (λ p e f. search rules)
+      | in_default-via-else-list-lt1+else-list-lt2 w ↦ listed (λ p e _. omega (arith, ltb-false, ap length e)) (λ p e _. omega (arith, ltb-false, ap length e))
+    ]

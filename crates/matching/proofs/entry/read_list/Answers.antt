@@ -9,12 +9,12 @@ loop-text-init c = (omega arith, listed_none c.args.list.now)
 pub loop-text-preserved : goal.loop-text-preserved
 loop-text-preserved c = (
   omega arith,
-  listed_more c.args.list.now c.loop-text.text-index c.loop-text.bits c.single.result c.joined-bits.result c.in-Some.k _
-      c.loop-text-test.true c.loop-text.invariant.1 c.in-Some.ensures c.single.ensures c.joined-bits.ensures,
+  listed_more c.args.list.now c.loop-text.text-index c.loop-text.bits c.single.result c.joined-bits.result c.in_ok-read_code.field-0 _
+      c.loop-text-test.true c.loop-text.invariant.1 c.in_ok-read_code.ensures c.single.ensures c.joined-bits.ensures,
 )
 
-pub returns-in-None : goal.returns-in-None
-returns-in-None c = (c.loop-text.text-index, c.loop-text-test.true, λ k w. c.in-None.ensures k (w _))
+pub returns-in_err-read_code : goal.returns-in_err-read_code
+returns-in_err-read_code c = rw c.from_residual.ensures (c.loop-text.text-index, c.loop-text-test.true, λ k w. c.in_err-read_code.ensures k (w _))
 
 pub returns : goal.returns
 returns c =
