@@ -1,60 +1,75 @@
--- Testing the rows of a slice one after another. Assumes nothing.
-use Rattle.std.proofs.Common.{◌≡◌, ℕ, ◌+◌, ◌<◌, ◌≤◌, Bool, true, false, leb, List, length, get_or, sym, ap, ◌∙◌, subst, ⊎_elim, arith}
-use Rattle.std.proofs.lemmas.List.{get_or_read, get_or_default}
-use Rattle.std.proofs.lemmas.Bool.{both_ways, or_left, or_right, or_from, le-leb, lt-leb, cases_Bool, cases_lt, cases_eq}
+-- Testing the rows of a slice. Assumes nothing.
+use Rattle.std.proofs.Common.{◌≡◌, ℕ, ◌+◌, ◌-◌, ◌<◌, ◌≤◌, Bool, true, false, List, length, get_or, take, drop, Decides, MatchBool, sym, refl, ap, ◌∙◌, subst, ⊎_elim, arith, length-drop}
+use Rattle.std.specs.List.{list_all, range_with_len, AllWithin, HoldsAt}
+use Rattle.std.proofs.lemmas.List.{get_or_read, get_or_default, get_or-take, get_or-drop, length-take-le}
+use Rattle.std.proofs.lemmas.List.FromFn.{length-range_with_len, get_or-range_with_len}
+use Rattle.std.proofs.lemmas.Bool.{false≢true, cases_eq}
+use Rattle.std.proofs.lemmas.Bool.Decides.{same_from_decides, Decides-like, Decides-by_and}
 use Rattle.concepts.proofs.Verdicts.{element}
 use Rattle.rows.specs.Shapes.{every, precedes, clear, row_fine, Fine, Shaped}
 use Rattle.rows.specs.Tables.{rows_of}
 use Rattle.rows.specs.declared.row.Row.{Row}
-use Rattle.rows.proofs.Shaping.{every_at, every_all, fine_shape, shape_fine}
+use Rattle.rows.proofs.Shaping.{Between, clear_between, between_clear, fine_shape, shape_fine}
 
-module _ {R : Type 0} (xs : List (Row R)) (c : ℕ) (y : Row R) (inside : c < length xs) (is : y ≡ get_or xs c y) where
-  parent_is : (e : Row R) → (get_or xs c y).parent ≡ (rows_of e xs c).parent
-  parent_is e = ap (λ z. z.parent) (get_or_default xs c y e inside)
+-- The rows between a row and its parent, as a slice.
+module _ {R : Type 0} (xs : List (Row R)) (c : ℕ) (inside : c < length xs) (e : Row R) where
+  abbrev T : ℕ → Row R
+  T = rows_of e xs
 
-  -- rows up to the parent are clear
-  pub clear_start : (e : Row R) → every (clear (rows_of e xs) c) ((get_or xs c y).parent + 1) ≡ true
-  clear_start e =
-      every_all (clear (rows_of e xs) c) ((get_or xs c y).parent + 1)
-      (λ b l. or_left _ _ (le-leb b (rows_of e xs c).parent (let q = parent_is e in omega arith)))
+  module _ (start : ℕ) (next : start ≡ (T c).parent + 1) where
+    abbrev between : List (Row R)
+    between = take (c - start) (drop start xs)
 
-  module _ (b : ℕ) (before : (e : Row R) → every (clear (rows_of e xs) c) b ≡ true) where
-    module _ (x z : Row R) (here : b < length xs) (at : x ≡ get_or xs b x) (again : z ≡ get_or xs c z) where
-      precedes_is : (e : Row R) → precedes x z ≡ precedes (rows_of e xs b) (rows_of e xs c)
-      precedes_is e =
-          ap (λ w. precedes w z) (get_or_read xs b x here at e) ∙ ap (λ w. precedes (rows_of e xs b) w) (get_or_read xs c z inside again e)
+    between_length : length between ≡ c - start
+    between_length = length-take-le (c - start) (drop start xs) (omega (arith, length-drop start xs))
 
-      pub clear_more : precedes x z ≡ true → (e : Row R) → every (clear (rows_of e xs) c) (b + 1) ≡ true
-      clear_more h e = every_all (clear (rows_of e xs) c) (b + 1) (λ a l. ⊎_elim
-          (λ u. every_at (clear (rows_of e xs) c) b (before e) a u)
-          (λ u. let q : b ≡ a = omega arith in subst (λ w. clear (rows_of e xs) c w ≡ true) q (or_right (leb b (rows_of e xs c).parent) _ (sym (precedes_is e) ∙ h)))
-          (cases_lt a b))
+    between_at : (k b : ℕ) (d : Row R) → start + k ≡ b → b < c → get_or between k d ≡ T b
+    between_at k b d q l =
+        get_or-take (c - start) (drop start xs) k d (omega arith) ∙ get_or-drop start xs k d ∙ ap (λ i. get_or xs i d) q ∙ get_or_default xs b d e (omega arith)
 
-      pub clear_not : precedes x z ≡ false → (get_or xs c y).parent + 1 ≤ b → b < c → (e : Row R) → false ≡ every (clear (rows_of e xs) c) c
-      clear_not h past l e = ⊎_elim
-          (λ t. absurd (both_ways (clear (rows_of e xs) c b)
-          (or_from (leb b (rows_of e xs c).parent) _ (lt-leb b (rows_of e xs c).parent (let q = parent_is e in omega arith)) (sym (precedes_is e) ∙ h))
-          (every_at (clear (rows_of e xs) c) c t b l)))
-          sym
-          (cases_Bool (every (clear (rows_of e xs) c) c))
+    all_between : Decides (list_all (λ x. precedes x (T c)) between) (Between T c)
+    all_between = Decides-like _
+        (λ h b low high. let k = b - start in
+        subst (λ x. precedes x (T c) ≡ true) (between_at k b e (omega arith) high) (h k e (omega (arith, between_length))))
+        (λ h k d l. let high : start + k < c = omega (arith, between_length) in
+        subst (λ x. precedes x (T c) ≡ true) (sym (between_at k (start + k) d refl high)) (h (start + k) (omega arith) high))
+        (Decides-by_and (λ x. precedes x (T c)) (λ x. precedes x (T c) ≡ true) (list_all (λ x. precedes x (T c))) (λ x. (λ h. h, λ h. h)) refl (λ _ _. refl) between)
 
-    pub clear_end : c ≤ b → (e : Row R) → true ≡ every (clear (rows_of e xs) c) c
-    clear_end l e = sym (every_all (clear (rows_of e xs) c) c (λ a u. every_at (clear (rows_of e xs) c) b (before e) a (omega arith)))
+  -- they belong there exactly where every row before it is clear
+  pub between_every : (y : Row R) (p : ℕ) → y ≡ get_or xs c y → p ≡ y.parent → list_all (λ x. precedes x y) (take (c - (p + 1)) (drop (p + 1) xs)) ≡ every (clear (rows_of e xs) c) c
+  between_every y p is q =
+      let row_is = get_or_read xs c y inside is e in
+      let next : p + 1 ≡ (T c).parent + 1 = ap (λ n. n + 1) (q ∙ ap (λ x. x.parent) row_is) in
+      subst (λ z. list_all (λ x. precedes x z) (between (p + 1) next) ≡ every (clear T c) c) (sym row_is)
+      (same_from_decides _ (every (clear T c) c) (all_between (p + 1) next) (clear_between T c, between_clear T c))
 
 -- Every row passes.
 module _ {R : Type 0} (xs : List (Row R)) where
-  -- the rows before c pass
-  abbrev pub Passed : ℕ → Type 0
-  Passed c = (e : Row R) (b : ℕ) → b < c → row_fine (rows_of e xs) b ≡ true
+  -- the test of row c comes to t
+  abbrev pub Tested : Bool → ℕ → Type 0
+  Tested t c = (e : Row R) → t ≡ row_fine (rows_of e xs) c
 
-  pub passed_more : (c : ℕ) (t : Bool) → Passed c → ((e : Row R) → t ≡ row_fine (rows_of e xs) c) → t ≡ true → Passed (c + 1)
-  passed_more c t before here h e b l = ⊎_elim (before e b) (λ u. let q : c ≡ b = omega arith in subst (λ w. row_fine (rows_of e xs) w ≡ true) q (sym (here e) ∙ h)) (cases_lt b c)
+  abbrev places : List ℕ
+  places = range_with_len 0 (length xs)
 
-  pub passed_not : (c : ℕ) (t : Bool) → c < length xs → ((e : Row R) → t ≡ row_fine (rows_of e xs) c) → t ≡ false → Fine xs → ⊥
-  passed_not c t l here h fine = let x = (element xs c l).0 in both_ways t h (here x ∙ fine x c l)
+  place : (c : ℕ) → c < length xs → get_or places c 0 ≡ c
+  place c l = get_or-range_with_len 0 (length xs) c 0 l ∙ (let e : 0 + c ≡ c = omega arith in e)
 
-  pub passed_all : (c : ℕ) → length xs ≤ c → Passed c → Fine xs
-  passed_all c l before e b h = before e b (omega arith)
+  tested : (t : Bool) (c : ℕ) → c < length xs → HoldsAt (Tested t) places c → (e : Row R) → t ≡ row_fine (rows_of e xs) c
+  tested t c l h e = subst (λ b. t ≡ row_fine (rows_of e xs) b) (place c l) (h 0 e)
+
+  pub all_fine : (r : Bool) → MatchBool r (AllWithin (Tested true) places 0 (length places)) ((k : ℕ) × (k < length places) × HoldsAt (Tested false) places k) → Decides r (Fine xs)
+  all_fine true h = (
+    λ _ e c l. sym (tested true c l (λ d. h c d (omega arith) (omega (arith, length-range_with_len 0 (length xs)))) e),
+    λ _. refl,
+  )
+  all_fine false h = (
+    λ e. absurd (false≢true e),
+    λ fine. absurd (
+        let l : h.0 < length xs = omega (arith, h.1, length-range_with_len 0 (length xs)) in
+        let x = (element xs h.0 l).0 in
+        false≢true (tested false h.0 l h.2 x ∙ fine x h.0 l)),
+  )
 
   -- rows that pass are well formed
   pub fine_shaped : 0 < length xs → length xs ≤ 128 → Fine xs → Shaped xs

@@ -11,12 +11,6 @@ use Rattle.rows.specs.declared.group.Group.{Group}
 use Rattle.rows.proofs.Groups.{copy, hangs_parts, hangs_from, Alone, fillers, fillers_none}
 use Rattle.rows.proofs.Rooted.{Earlier}
 
-pub none_some : {A : Type 0} (g : ℕ) → None ≡ Some g → A
-none_some g e = let z : ◌≡◌ {A = ℕ} 0 1 = cc in absurd (omega arith)
-
-pub some_same : (g h : ℕ) → Some g ≡ Some h → g ≡ h
-some_same g h e = cc
-
 -- no two groups hang from one group by one role
 abbrev pub Lone : {V : Type 0} → (ℕ → Group V) → ℕ → Type 0
 Lone G n = (g h : ℕ) → 0 < g → g < n → 0 < h → h < n → (G g).parent ≡ (G h).parent → (G g).role ≡ (G h).role → g ≡ h

@@ -1,7 +1,8 @@
 -- Looking for what hangs somewhere by a role, one after another. Assumes nothing.
-use Rattle.std.proofs.Common.{◌≡◌, ℕ, zero, suc, ◌+◌, ◌-◌, ◌<◌, ◌≤◌, min, Bool, true, false, cond, ◌||◌, eqb, ◌⊎◌, List, length, get_or, take, is_some, Some, None, Option, sym, refl, ap, ◌∙◌, subst, inl, inr, ⊎_elim, arith}
+use Rattle.std.proofs.Common.{◌≡◌, ℕ, zero, suc, ◌+◌, ◌-◌, ◌<◌, ◌≤◌, min, Bool, true, false, cond, ◌||◌, eqb, ◌⊎◌, List, length, get_or, take, is_some, Some, None, MatchOption, Option, sym, refl, ap, ◌∙◌, subst, inl, inr, ⊎_elim, arith}
+use Rattle.std.proofs.lemmas.Option.{none-some}
 use Rattle.std.proofs.lemmas.List.{get_or_read, length-take-le, get_or-take}
-use Rattle.std.proofs.lemmas.Bool.{cond-true, cond-false, cases_eq, cases_lt, cases_order, eqb-true, eq-eqb, and_parts, and_from, false≢true}
+use Rattle.std.proofs.lemmas.Bool.{cases_eq, cases_lt, cases_order, eqb-true, eq-eqb, and_parts, and_from, false≢true, both_ways}
 use Rattle.rows.specs.Hanging.{Hook, hangs_by, child_from, child_in}
 
 module _ (H : ℕ → Hook) where
@@ -17,7 +18,7 @@ module _ (H : ℕ → Hook) where
   true_hangs c r d w = and_from (eqb (H d).0 c) (eqb (H d).1 r) (eq-eqb (H d).0 c w.parent) (eq-eqb (H d).1 r w.role)
 
   child_from_some : (c r m b d : ℕ) → child_from H c r m b ≡ Some d → (b ≤ d) × (d < b + m) × Hangs c r d
-  child_from_some c r zero b d e = absurd (let z : ◌≡◌ {A = ℕ} 0 1 = cc in omega arith)
+  child_from_some c r zero b d e = absurd (cc)
   child_from_some c r (suc m) b d e = go (hangs_by (H b) c r) refl e (child_from_some c r m (b + 1) d)
     where
       go : (t : Bool) → hangs_by (H b) c r ≡ t → cond t (Some b) (child_from H c r m (b + 1)) ≡ Some d
@@ -39,7 +40,7 @@ module _ (H : ℕ → Hook) where
 
   -- nothing before the one that is found hangs there
   child_from_nearest : (c r m b d i : ℕ) → child_from H c r m b ≡ Some d → b ≤ i → i < d → Hangs c r i → ⊥
-  child_from_nearest c r zero b d i e l h w = absurd (let z : ◌≡◌ {A = ℕ} 0 1 = cc in omega arith)
+  child_from_nearest c r zero b d i e l h w = absurd (cc)
   child_from_nearest c r (suc m) b d i e l h w = go (hangs_by (H b) c r) refl e (λ p q. child_from_nearest c r m (b + 1) d i p q h w)
     where
       go : (t : Bool) → hangs_by (H b) c r ≡ t → cond t (Some b) (child_from H c r m (b + 1)) ≡ Some d
@@ -61,14 +62,24 @@ module _ (H : ℕ → Hook) where
   child_finds n c r d l h w = child_from_finds c r (n - (c + 1)) (c + 1) d (omega arith) (omega arith) w
 
   pub child_none : (n c r : ℕ) → child_in H n c r ≡ None → (d : ℕ) → c < d → d < n → Hangs c r d → ⊥
-  child_none n c r e d l h w = let x = child_finds n c r d l h w in let z : ◌≡◌ {A = ℕ} 0 1 = cc in omega arith
+  child_none n c r e d l h w = let x = child_finds n c r d l h w in none-some x.0 (sym e ∙ x.1)
 
-  -- one that does not hang there
-  scan_past : (c r m b : ℕ) → hangs_by (H b) c r ≡ false → child_from H c r (suc m) b ≡ child_from H c r m (b + 1)
-  scan_past c r m b e = cond-false (hangs_by (H b) c r) _ _ e
-
-  scan_hit : (c r m b : ℕ) → hangs_by (H b) c r ≡ true → child_from H c r (suc m) b ≡ Some b
-  scan_hit c r m b e = cond-true (hangs_by (H b) c r) _ _ e
+  -- the first after c that hangs there is the child
+  pub child_is : (n c r : ℕ) (o : Option ℕ) → MatchOption o ((k : ℕ) → c < k → k < n → Hangs c r k → ⊥)
+      (λ d. (c < d) × (d < n) × Hangs c r d × ((k : ℕ) → c < k → k < d → Hangs c r k → ⊥)) → o ≡ child_in H n c r
+  child_is n c r None none = go (child_in H n c r) refl
+    where
+      go : (o : Option ℕ) → child_in H n c r ≡ o → None ≡ o
+      go None e = refl
+      go (Some d) e = let w = child_some n c r d e in absurd (none d w.0 w.1 w.2)
+  child_is n c r (Some d) h =
+      let x = child_finds n c r d h.0 h.1 h.2 in
+      let w = child_some n c r x.0 x.1 in
+      elim (cases_order d x.0) [
+        | inl e ↦ ap Some e ∙ sym x.1
+        | inr (inl l) ↦ absurd (child_nearest n c r x.0 d x.1 h.0 l h.2)
+        | inr (inr l) ↦ absurd (h.3 x.0 w.0 l w.2)
+      ]
 
   -- one more at the end
   pub scan_more : (c r m b : ℕ) → is_some (child_from H c r (suc m) b) ≡ (is_some (child_from H c r m b) || hangs_by (H (b + m)) c r)
@@ -104,39 +115,28 @@ child_front hook xs n c r e l =
         let z : n - (c + 1) ≡ 0 = omega arith in
         ap (λ m. child_from (λ i. hook (get_or (take n xs) i e)) c r m (c + 1)) z ∙ sym (ap (λ m. child_from (λ i. hook (get_or xs i e)) c r m (c + 1)) z)
 
--- Through the elements of a slice.
+-- The first element of a slice after c that hangs there.
 module _ {X : Type 0} (hook : X → Hook) (xs : List X) (c r : ℕ) where
-  abbrev at : X → ℕ → Hook
-  at e i = hook (get_or xs i e)
+  -- the test of the element at i comes to t
+  abbrev pub Tests : Bool → ℕ → Type 0
+  Tests t i = (x : X) × (x ≡ get_or xs i x) × (hangs_by (hook x) c r ≡ t)
 
-  -- the child is among the elements from b on
-  abbrev pub Ahead : ℕ → Type 0
-  Ahead b = (e : X) → child_in (at e) (length xs) c r ≡ child_from (at e) c r (length xs - b) b
+  -- looked for from the next number on, where that is at most u
+  pub child_found : (s u : ℕ) (o : Option ℕ) → s ≡ min (c + 1) u → length xs ≤ u
+      → MatchOption o ((k : ℕ) → s ≤ k → k < length xs → Tests false k) (λ i. (s ≤ i) × (i < length xs) × Tests true i × ((k : ℕ) → s ≤ k → k < i → Tests false k))
+      → (e : X) → o ≡ child_in (λ i. hook (get_or xs i e)) (length xs) c r
+  child_found s u o q l h e = child_is H (length xs) c r o (go o h)
+    where
+      H : ℕ → Hook
+      H i = hook (get_or xs i e)
 
-  start : (b : ℕ) → (b ≡ c + 1) ⊎ ((length xs ≤ b) × (length xs ≤ c + 1)) → Ahead b
-  start b (inl q) e = ap (λ x. child_from (at e) c r (length xs - x) x) (sym q)
-  start b (inr l) e =
-      let p : length xs - (c + 1) ≡ 0 = omega (arith, l.1) in
-      let q : length xs - b ≡ 0 = omega (arith, l.0) in
-      ap (λ m. child_from (at e) c r m (c + 1)) p ∙ sym (ap (λ m. child_from (at e) c r m b) q)
+      test : (t : Bool) (k : ℕ) → k < length xs → Tests t k → hangs_by (H k) c r ≡ t
+      test t k b w = subst (λ y. hangs_by (hook y) c r ≡ t) (get_or_read xs k w.0 b w.1 e) w.2
 
-  -- the first, where the next number is at most u
-  pub ahead_start : (b u : ℕ) → b ≡ min (c + 1) u → length xs ≤ u → Ahead b
-  ahead_start b u q l = start b (elim (cases_lt (c + 1) u) [ inl h ↦ inl (omega arith) | inr h ↦ inr (omega arith, omega arith) ])
+      not_there : (k : ℕ) → k < length xs → Tests false k → Hangs H c r k → ⊥
+      not_there k b w there = both_ways (hangs_by (H k) c r) (test false k b w) (true_hangs H c r k there)
 
-  module _ (b : ℕ) (x : X) (ahead : Ahead b) (here : b < length xs) (is : x ≡ get_or xs b x) where
-    -- what is tested is the element at b
-    at_b : (t : Bool) → hangs_by (hook x) c r ≡ t → (e : X) → hangs_by (at e b) c r ≡ t
-    at_b t h e = subst (λ y. hangs_by (hook y) c r ≡ t) (get_or_read xs b x here is e) h
-
-    one_more : (e : X) → child_in (at e) (length xs) c r ≡ child_from (at e) c r (suc (length xs - (b + 1))) b
-    one_more e = let q : length xs - b ≡ suc (length xs - (b + 1)) = omega arith in ahead e ∙ ap (λ m. child_from (at e) c r m b) q
-
-    pub ahead_more : hangs_by (hook x) c r ≡ false → Ahead (b + 1)
-    ahead_more h e = one_more e ∙ scan_past (at e) c r (length xs - (b + 1)) b (at_b false h e)
-
-    pub ahead_found : hangs_by (hook x) c r ≡ true → (e : X) → Some b ≡ child_in (at e) (length xs) c r
-    ahead_found h e = sym (one_more e ∙ scan_hit (at e) c r (length xs - (b + 1)) b (at_b true h e))
-
-  pub ahead_none : (b : ℕ) → Ahead b → length xs ≤ b → (e : X) → None ≡ child_in (at e) (length xs) c r
-  ahead_none b ahead l e = let q : length xs - b ≡ 0 = omega arith in sym (ahead e ∙ ap (λ m. child_from (at e) c r m b) q)
+      go : (o : Option ℕ) → MatchOption o ((k : ℕ) → s ≤ k → k < length xs → Tests false k) (λ i. (s ≤ i) × (i < length xs) × Tests true i × ((k : ℕ) → s ≤ k → k < i → Tests false k))
+          → MatchOption o ((k : ℕ) → c < k → k < length xs → Hangs H c r k → ⊥) (λ d. (c < d) × (d < length xs) × Hangs H c r d × ((k : ℕ) → c < k → k < d → Hangs H c r k → ⊥))
+      go None none = λ k a b. not_there k b (none k (omega arith) b)
+      go (Some i) w = (omega (arith, w.0, w.1), w.1, hangs_true H c r i (test true i w.1 w.2), λ k a b. let z : k < length xs = omega (arith, w.1) in not_there k z (w.3 k (omega arith) b))

@@ -1,5 +1,5 @@
 -- Rows that may each stand where they do stand in the order of their paths, and the other way round. Assumes nothing.
-use Rattle.std.proofs.Common.{◌≡◌, ℕ, zero, suc, ◌<◌, ◌≤◌, Bool, true, not, ◌&&◌, eqb, ltb, leb, ◌⊎◌, List, [], ◌∷◌, ◌++◌, length, is_some, Some, None, Option, sym, refl, ap, ◌∙◌, subst, inl, inr, ⊎_elim, append_assoc, append-nil, arith}
+use Rattle.std.proofs.Common.{◌≡◌, ℕ, zero, suc, ◌<◌, ◌≤◌, Bool, true, not, ◌&&◌, eqb, ltb, leb, ◌⊎◌, List, [], ◌∷◌, ◌++◌, is_some, Some, None, Option, sym, refl, ap, ◌∙◌, subst, inl, inr, ⊎_elim, append_assoc, append-nil, arith}
 use Rattle.std.proofs.lemmas.Bool.{false≢true, and_parts, and_from, or_cases, or_left, or_right, lt-ltb, ltb-true, le-leb, leb-true, eq-eqb, ne_eqb, eqb-true, cond-false, cases_eq, cases_lt, cases_order}
 use Rattle.rows.specs.Numbers.{Under, in_order, Limited, limited}
 use Rattle.rows.specs.Tables.{then_role, Stands, below, Before, shorter, lower_role, later}
@@ -28,9 +28,9 @@ before_further (x ∷ σ) s τ = later (before_further σ s τ)
 
 -- the ways in which one path comes before another
 before_nil : (π ρ : List ℕ) → Before π ρ → ρ ≡ [] → ⊥
-before_nil π ρ (shorter {r = r} {π = σ}) e = let q = ap length e in omega arith
-before_nil π ρ (lower_role {ρ = σ} l) e = let q = ap length e in omega arith
-before_nil π ρ (later {ρ = σ} b) e = let q = ap length e in omega arith
+before_nil π ρ shorter e = cc
+before_nil π ρ (lower_role l) e = cc
+before_nil π ρ (later b) e = cc
 
 before_heads : {x y : ℕ} {π ρ : List ℕ} → Before (x ∷ π) (y ∷ ρ) → (x < y) ⊎ ((x ≡ y) × Before π ρ)
 before_heads (lower_role l) = inl l
@@ -213,6 +213,22 @@ module _ {R : Type 0} (T : ℕ → Row R) where
   true_precedes x y (inl l) = or_left _ _ (lt-ltb y.parent x.parent l)
   true_precedes x y (inr l) = or_right (ltb y.parent x.parent) _ (and_from _ _ (eq-eqb x.parent y.parent l.0) (lt-ltb x.role y.role l.1))
 
+  -- the rows between a row and its parent
+  abbrev pub Between : ℕ → Type 0
+  Between c = (b : ℕ) → (T c).parent < b → b < c → precedes (T b) (T c) ≡ true
+
+  pub clear_between : (c : ℕ) → every (clear T c) c ≡ true → Between c
+  clear_between c e b low high = ⊎_elim
+      (λ h. absurd (omega (arith, leb-true b (T c).parent h)))
+      (λ h. h)
+      (or_cases (leb b (T c).parent) (precedes (T b) (T c)) (every_at (clear T c) c e b high))
+
+  pub between_clear : (c : ℕ) → Between c → every (clear T c) c ≡ true
+  between_clear c h = every_all (clear T c) c (λ b l. ⊎_elim
+      (λ low. or_right (leb b (T c).parent) _ (h b low l))
+      (λ past. or_left _ _ (le-leb b (T c).parent past))
+      (cases_lt (T c).parent b))
+
   pub later_standing : (c : ℕ) → later_fine T c ≡ true → Standing c
   later_standing c e =
       let p = and_parts (ltb (T c).parent c) _ e in
@@ -224,10 +240,7 @@ module _ {R : Type 0} (T : ℕ → Row R) where
         role = ltb-true (T c).role 16 q.0;
         numbers = in_order_under (T c).lower (T c).upper r.0;
         limits = limited_true (T c).lower (T c).upper s.0;
-        local = λ b low high. ⊎_elim
-            (λ h. absurd (omega (arith, leb-true b (T c).parent h)))
-            (precedes_true (T b) (T c))
-            (or_cases (leb b (T c).parent) (precedes (T b) (T c)) (every_at (clear T c) c s.1 b high));
+        local = λ b low high. precedes_true (T b) (T c) (clear_between c s.1 b low high);
       }
 
   pub standing_later : (c : ℕ) → Standing c → later_fine T c ≡ true
@@ -236,10 +249,7 @@ module _ {R : Type 0} (T : ℕ → Row R) where
       and_from _ _ (lt-ltb (T c).role 16 h.role) (
       and_from _ _ (under_in_order (T c).lower (T c).upper h.numbers) (
       and_from _ _ (true_limited (T c).lower (T c).upper h.limits)
-      (every_all (clear T c) c (λ b l. ⊎_elim
-      (λ high. or_right (leb b (T c).parent) _ (true_precedes (T b) (T c) (h.local b high l)))
-      (λ low. or_left _ _ (le-leb b (T c).parent low))
-      (cases_lt (T c).parent b))))))
+      (between_clear c (λ b low high. true_precedes (T b) (T c) (h.local b low high))))))
 
   pub fine_later : (c : ℕ) → 0 < c → row_fine T c ≡ true → later_fine T c ≡ true
   fine_later c some e = sym (cond-false (eqb c 0) _ _ (ne_eqb c 0 (λ q. omega arith))) ∙ e

@@ -6,10 +6,10 @@ use Rattle.rows.specs.declared.row.Row.{Row}
 -- the last role of a path, and what comes before it
 pub last_same : (π σ : List ℕ) (r s : ℕ) → then_role π r ≡ then_role σ s → (π ≡ σ) × (r ≡ s)
 last_same [] [] r s e = (refl, cc)
-last_same [] (t ∷ []) r s e = absurd (let z : ◌≡◌ {A = List ℕ} [] (s ∷ []) = cc in let q = ap length z in omega arith)
-last_same [] (t ∷ u ∷ σ) r s e = absurd (let z : ◌≡◌ {A = List ℕ} [] (u ∷ then_role σ s) = cc in let q = ap length z in omega arith)
-last_same (t ∷ []) [] r s e = absurd (let z : ◌≡◌ {A = List ℕ} (r ∷ []) [] = cc in let q = ap length z in omega arith)
-last_same (t ∷ u ∷ π) [] r s e = absurd (let z : ◌≡◌ {A = List ℕ} (u ∷ then_role π r) [] = cc in let q = ap length z in omega arith)
+last_same [] (t ∷ []) r s e = absurd (cc)
+last_same [] (t ∷ u ∷ σ) r s e = absurd (cc)
+last_same (t ∷ []) [] r s e = absurd (cc)
+last_same (t ∷ u ∷ π) [] r s e = absurd (cc)
 last_same (t ∷ π) (u ∷ σ) r s e =
     let tails : then_role π r ≡ then_role σ s = cc in
     let rest = last_same π σ r s tails in
@@ -19,8 +19,8 @@ last_same (t ∷ π) (u ∷ σ) r s e =
 -- a proper front of a path with one role more is a front of the path
 pub front_of : (π σ : List ℕ) (r s : ℕ) (ρ : List ℕ) → then_role π r ≡ σ ++ (s ∷ ρ) → (τ : List ℕ) × (π ≡ σ ++ τ)
 front_of π [] r s ρ e = (π, refl)
-front_of [] (t ∷ []) r s ρ e = absurd (let z : ◌≡◌ {A = List ℕ} [] (s ∷ ρ) = cc in let q = ap length z in omega arith)
-front_of [] (t ∷ u ∷ σ) r s ρ e = absurd (let z : ◌≡◌ {A = List ℕ} [] (u ∷ (σ ++ (s ∷ ρ))) = cc in let q = ap length z in omega arith)
+front_of [] (t ∷ []) r s ρ e = absurd (cc)
+front_of [] (t ∷ u ∷ σ) r s ρ e = absurd (cc)
 front_of (u ∷ π) (t ∷ σ) r s ρ e =
     let tails : then_role π r ≡ σ ++ (s ∷ ρ) = cc in
     let heads : u ≡ t = cc in

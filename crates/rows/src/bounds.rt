@@ -13,16 +13,16 @@ pub struct Bounds {
 }
 
 impl Bounds {
-    // The numbers of a row, unless the lower one is above the upper one.
+    // The numbers of a row, unless the lower one is above the upper one: one reason alone, which `None` says.
     pub fn of<K>(row: &Row<K>) -> Option<Bounds>
         ensures answer { Decides (is_some result) (Under row.now.lower row.now.upper) }
         ensures numbers { IfSome result (λ b. (b.lower ≡ row.now.lower) × (b.upper ≡ row.now.upper)) }
     {
-        let lower = row.lower;
-        let upper = row.upper;
-        match upper {
-            Some(most) if lower > most => None,
-            _ => Some(Bounds { lower, upper }),
+        let Row { lower, upper, .. } = *row;
+        if upper.is_some_and(|most| lower > most) {
+            None
+        } else {
+            Some(Bounds { lower, upper })
         }
     }
 
@@ -40,20 +40,14 @@ impl Bounds {
     pub fn allows(&self, count: u16) -> bool
         ensures value { Decides result (Allows self.now.lower self.now.upper count) }
     {
-        match self.upper {
-            Some(most) if count > most => false,
-            _ => self.lower <= count,
-        }
+        self.lower <= count && self.upper.is_none_or(|most| count <= most)
     }
 
     // Whether no filler is allowed.
     pub fn is_closed(&self) -> bool
         ensures value { Decides result (ClosesOff self.now.lower self.now.upper) }
     {
-        match self.upper {
-            Some(most) => most == 0,
-            None => false,
-        }
+        self.upper == Some(0)
     }
 
     // The least number of fillers that these allow and `other` does not, if there is any.
@@ -65,9 +59,8 @@ impl Bounds {
         }
         let most = other.upper?;
         let more = u32::from(self.lower).max(u32::from(most) + 1);
-        match self.upper {
-            Some(own) if u32::from(own) < more => None,
-            _ => Some(more),
-        }
+        self.upper
+            .is_none_or(|own| more <= u32::from(own))
+            .then_some(more)
     }
 }

@@ -1,4 +1,5 @@
 // Groups of like elements, of which a model is made.
+use crate::hung::Hung;
 
 // Elements with the same atoms, the same reading and the same fillers.
 #[derive(Clone, Copy)]
@@ -10,4 +11,12 @@ pub struct Group<V> {
     pub headcount: u16,
     pub atoms: u64,
     pub reading: V,
+}
+
+impl<V> Hung for Group<V> {
+    ghost hook = { λ x. (x.parent, x.role) };
+
+    fn hook(&self) -> (usize, u8) {
+        (usize::from(self.parent), self.role)
+    }
 }

@@ -1,4 +1,5 @@
 // Rows of a normal form.
+use crate::hung::Hung;
 
 // A form has at most so many rows, and a place has room for as many.
 pub const MOST_ROWS: usize = 128;
@@ -14,4 +15,12 @@ pub struct Row<K> {
     pub upper: Option<u16>,
     pub atoms: u64,
     pub restriction: K,
+}
+
+impl<K> Hung for Row<K> {
+    ghost hook = { λ x. (x.parent, x.role) };
+
+    fn hook(&self) -> (usize, u8) {
+        (usize::from(self.parent), self.role)
+    }
 }

@@ -1,5 +1,6 @@
 // The check of rows of any origin.
 ghost use Rattle.std.specs.Prelude.{◌≡◌, ◌<◌, length, is_some, IfSome, Decides};
+ghost use Rattle.std.specs.List.{list_all};
 ghost use Rattle.rows.specs.Numbers.{limited};
 ghost use Rattle.rows.specs.Shapes.{every, precedes, clear, top_fine, later_fine, row_fine, Fine, Shaped};
 ghost use Rattle.rows.specs.Tables.{rows_of};
@@ -19,27 +20,28 @@ fn comes_first<K>(x: &Row<K>, y: &Row<K>) -> bool
     x.parent > y.parent || (x.parent == y.parent && x.role < y.role)
 }
 
+// Whether each of `others` comes first.
+fn all_come_first<K>(others: &[Row<K>], row: &Row<K>) -> bool
+    ensures { result ≡ list_all (λ x. precedes x row.now) others.now }
+{
+    others.iter().all(|other| comes_first(other, row))
+}
+
 // Whether every row between row `c` and its parent belongs there.
 fn follows<K>(rows: &[Row<K>], c: usize) -> bool
-    requires { c < length rows.now }
+    requires inside { c < length rows.now }
+    requires below { (e : Row K) → (rows_of e rows.now c).parent < c }
     ensures { (e : Row K) → result ≡ every (clear (rows_of e rows.now) c) c }
 {
-    for b in rows[c].parent as usize + 1..c {
-        if !comes_first(&rows[b], &rows[c]) {
-            return false;
-        }
-    }
-    true
+    let row = &rows[c];
+    all_come_first(&rows[usize::from(row.parent) + 1..c], row)
 }
 
 // Whether neither number is above 999.
 fn is_limited<K>(row: &Row<K>) -> bool
     ensures { result ≡ limited row.now.lower row.now.upper }
 {
-    match row.upper {
-        Some(most) => row.lower <= MOST_COUNT && most <= MOST_COUNT,
-        None => row.lower <= MOST_COUNT,
-    }
+    row.lower <= MOST_COUNT && row.upper.is_none_or(|most| most <= MOST_COUNT)
 }
 
 // Whether the row hangs from nothing and has no numbers, as row 0 does.
@@ -55,7 +57,7 @@ fn later_row<K>(rows: &[Row<K>], c: usize) -> bool
     ensures { (e : Row K) → result ≡ later_fine (rows_of e rows.now) c }
 {
     let row = &rows[c];
-    (row.parent as usize) < c
+    usize::from(row.parent) < c
         && row.role <= LAST_ROLE
         && Bounds::of(row).is_some()
         && is_limited(row)
@@ -78,16 +80,16 @@ fn may_stand<K>(rows: &[Row<K>], c: usize) -> bool
 fn all_stand<K>(rows: &[Row<K>]) -> bool
     ensures { Decides result (Fine rows.now) }
 {
-    for c in 0..rows.len() {
-        if !may_stand(rows, c) {
-            return false;
-        }
-    }
-    true
+    (0..rows.len()).all(
+        |c|
+            requires { c < length rows.now }
+            ensures { (e : Row K) → result ≡ row_fine (rows_of e rows.entry.now) c }
+        { may_stand(rows, c) },
+    )
 }
 
 impl<'a, K> Form<'a, K> {
-    // The rows as a form, where they are well formed.
+    // The rows as a form, where they are well formed. Which row is not does not matter to callers, so `None` says it.
     pub fn of(rows: &'a [Row<K>]) -> Option<Form<'a, K>>
         ensures answer { Decides (is_some result) (Shaped rows.now) }
         ensures rows { IfSome result (λ f. f.rows.now ≡ rows.now) }

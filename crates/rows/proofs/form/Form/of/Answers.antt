@@ -1,6 +1,6 @@
-use Rattle.std.proofs.Common.{◌<◌, length, sym, refl, arith}
-use Rattle.std.proofs.lemmas.Bool.{false≢true, eqb-true, eqb-false}
-use Rattle.std.proofs.lemmas.Bool.Decides.{not_from_Decides}
+use Rattle.std.proofs.Common.{length, sym, refl, arith}
+use Rattle.std.proofs.lemmas.Bool.{false≢true, eqb-true}
+use Rattle.std.proofs.lemmas.Bool.Decides.{nat_tests, not_from_Decides}
 use Rattle.rows.proofs.Clearing.{fine_shaped, shaped_few, shaped_fine}
 use Rattle.rows.proofs.form.Form.of.Goals as goal
 use Rattle.rows.proofs.form.Form.of.Goals.{
@@ -24,14 +24,11 @@ returns-then-is_empty g c =
       rows = tt;
     }
 
-pub invariant_of-result : goal.invariant_of-result
-invariant_of-result g c = record { some = some; few = c.if-rows-gt-MOST_ROWS.false; fine = c.all_stand.ensures.0 c.if-not-all_stand.false }
-  where
-    some : 0 < length c.args.rows.now
-    some = let ne = eqb-false (length c.args.rows.now) 0 (sym c.if-is_empty.ensures) in omega arith
+pub invariant_of-result-clause-fine : goal.invariant_of-result-clause-fine
+invariant_of-result-clause-fine g c = c.all_stand.ensures.0 c.if-not-all_stand.false
 
 pub returns : goal.returns
-returns g c = record { answer = (λ _. fine_shaped c.args.rows.now some c.if-rows-gt-MOST_ROWS.false (c.all_stand.ensures.0 c.if-not-all_stand.false), λ _. refl); rows = refl }
-  where
-    some : 0 < length c.args.rows.now
-    some = let ne = eqb-false (length c.args.rows.now) 0 (sym c.if-is_empty.ensures) in omega arith
+returns g c = record {
+  answer = (λ _. fine_shaped c.args.rows.now (grind (arith, nat_tests)) c.if-rows-gt-MOST_ROWS.false (c.all_stand.ensures.0 c.if-not-all_stand.false), λ _. refl);
+  rows = refl;
+}
