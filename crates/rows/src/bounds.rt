@@ -18,11 +18,21 @@ impl Bounds {
         ensures answer { Decides (is_some result) (Under row.now.lower row.now.upper) }
         ensures numbers { IfSome result (λ b. (b.lower ≡ row.now.lower) × (b.upper ≡ row.now.upper)) }
     {
-        let Row { lower, upper, .. } = *row;
-        if upper.is_some_and(|most| lower > most) {
+        if row.upper.is_some_and(|most| row.lower > most) {
             None
         } else {
-            Some(Bounds { lower, upper })
+            Some(Bounds::of_ordered(row))
+        }
+    }
+
+    // The numbers of a row whose lower one is not above its upper one.
+    pub(crate) fn of_ordered<K>(row: &Row<K>) -> Bounds
+        requires { Under row.now.lower row.now.upper }
+        ensures numbers { (result.lower ≡ row.now.lower) × (result.upper ≡ row.now.upper) }
+    {
+        Bounds {
+            lower: row.lower,
+            upper: row.upper,
         }
     }
 

@@ -107,4 +107,13 @@ impl<'a, K> Form<'a, K> {
     {
         self.rows
     }
+
+    // The numbers of a row, which are in order.
+    pub fn bounds(&self, c: usize) -> Bounds
+        requires { c < length self.now.rows.now }
+        ensures lower { (e : Row K) → result.lower ≡ (rows_of e self.now.rows.now c).lower }
+        ensures upper { (e : Row K) → result.upper ≡ (rows_of e self.now.rows.now c).upper }
+    {
+        Bounds::of_ordered(&self.rows[c])
+    }
 }
