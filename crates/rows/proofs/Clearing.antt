@@ -8,6 +8,7 @@ use Rattle.std.proofs.lemmas.Bool.Decides.{same_from_decides, Decides-like, Deci
 use Rattle.concepts.proofs.Verdicts.{element}
 use Rattle.rows.specs.Shapes.{every, precedes, clear, row_fine, Fine, Shaped}
 use Rattle.rows.specs.Tables.{rows_of}
+use Rattle.rows.specs.declared.form.Form.{Form}
 use Rattle.rows.specs.declared.row.Row.{Row}
 use Rattle.rows.proofs.Shaping.{Between, clear_between, between_clear, fine_shape, shape_fine}
 
@@ -87,3 +88,11 @@ module _ {R : Type 0} (xs : List (Row R)) where
 
   pub shaped_fine : Shaped xs → Fine xs
   shaped_fine shaped e c l = shape_fine (rows_of e xs) (length xs) (shaped.1 e) c l
+
+-- a form has such rows
+pub form_shaped : {R : Type 0} (f : Form R) → Shaped f.rows.now
+form_shaped f = fine_shaped f.rows.now f.some f.few f.fine
+
+-- a row that is read from a slice of its rows
+pub row_at : {R : Type 0} (xs ys : List (Row R)) (c : ℕ) (y e : Row R) → xs ≡ ys → c < length ys → get_or xs c y ≡ rows_of e ys c
+row_at xs ys c y e v l = ap (λ zs. get_or zs c y) v ∙ get_or_default ys c y e l

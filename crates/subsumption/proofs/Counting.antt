@@ -1,8 +1,9 @@
 -- Going through the slots, and what is then written. Assumes nothing.
 use Rattle.std.proofs.Common.{◌≡◌, ℕ, ◌+◌, ◌<◌, ◌≤◌, Bool, ◌⊎◌, Some, None, Option, sym, refl, ap, ◌∙◌, subst, inl, inr, ⊎_elim, arith}
+use Rattle.std.proofs.lemmas.Option.{none-some, same_Some}
 use Rattle.std.proofs.lemmas.Bool.{cases_lt}
 use Rattle.rows.specs.declared.group.Group.{Group}
-use Rattle.rows.proofs.Fitting.{none_some, some_same, Kin, kin, no_kin, heads, Lone}
+use Rattle.rows.proofs.Fitting.{Kin, kin, no_kin, heads, Lone}
 use Rattle.subsumption.specs.Census.{Stated, Fate, gone, idle, settled, Census}
 
 module _ {V : Type 0} (up by many : ℕ → ℕ) (atom : ℕ → ℕ → Bool) (picked : ℕ → V → Type 0) (t : ℕ) (lower : (s : ℕ) → 0 < s → s < t → up s < s) where
@@ -24,7 +25,7 @@ module _ {V : Type 0} (up by many : ℕ → ℕ) (atom : ℕ → ℕ → Bool) (
     number = omega arith;
     root = e;
     first = first;
-    bound = λ b x u q. let z : b ≡ 0 = omega arith in let w : 0 ≡ x = some_same 0 x (sym e ∙ subst (λ i. made i ≡ Some x) z q) in omega arith;
+    bound = λ b x u q. let z : b ≡ 0 = omega arith in let w : 0 ≡ x = same_Some 0 x (sym e ∙ subst (λ i. made i ≡ Some x) z q) in omega arith;
     fate = λ b z u. absurd (omega arith);
     from = λ x z u. absurd (omega arith);
     apart = λ b c x u v p q. omega arith;
@@ -52,7 +53,7 @@ module _ {V : Type 0} (up by many : ℕ → ℕ) (atom : ℕ → ℕ → Bool) (
     }
       where
         old : (b x : ℕ) → b < s + 1 → made' b ≡ Some x → b < s
-        old b x u q = ⊎_elim (λ v. v) (λ v. none_some x (sym e ∙ subst (λ i. made' i ≡ Some x) (newest b u v) q)) (cases_lt b s)
+        old b x u q = ⊎_elim (λ v. v) (λ v. absurd (none-some x (sym e ∙ subst (λ i. made' i ≡ Some x) (newest b u v) q))) (cases_lt b s)
 
         last : (made (up s) ≡ None) ⊎ (many s ≡ 0) → Went g G s (made (up s)) None
         last (inl n) = subst (λ a. Went g G s a None) (sym n) gone
@@ -68,7 +69,7 @@ module _ {V : Type 0} (up by many : ℕ → ℕ) (atom : ℕ → ℕ → Bool) (
       first = subst (λ y. Stated up by many atom picked 0 0 1 y) (sym (keep 0 c.some)) c.first;
       bound = λ b x u q. ⊎_elim
           (λ v. omega (arith, c.bound b x v (sym (same b v) ∙ q)))
-          (λ v. let k = some_same g x (sym e ∙ subst (λ i. made' i ≡ Some x) (newest b u v) q) in omega arith)
+          (λ v. let k = same_Some g x (sym e ∙ subst (λ i. made' i ≡ Some x) (newest b u v) q) in omega arith)
           (cases_lt b s);
       fate = λ b y u. ⊎_elim
           (λ v. lift g (g + 1) G G' b (made' (up b)) (made' b) (omega arith) keep
@@ -84,7 +85,7 @@ module _ {V : Type 0} (up by many : ℕ → ℕ) (atom : ℕ → ℕ → Bool) (
     }
       where
         new : (b x : ℕ) → b < s → made' b ≡ Some x → made' s ≡ Some x → ⊥
-        new b x v q q' = let k = some_same g x (sym e ∙ q') in omega (arith, c.bound b x v (sym (same b v) ∙ q))
+        new b x v q q' = let k = same_Some g x (sym e ∙ q') in omega (arith, c.bound b x v (sym (same b v) ∙ q))
 
         go : (a b x : ℕ) → a < s + 1 → b < s + 1 → made' a ≡ Some x → made' b ≡ Some x → (a < s) ⊎ (s ≤ a) → (b < s) ⊎ (s ≤ b) → a ≡ b
         go a b x u v p q (inl i) (inl j) = c.apart a b x i j (sym (same a i) ∙ p) (sym (same b j) ∙ q)
@@ -104,10 +105,10 @@ module _ {V : Type 0} (up by many : ℕ → ℕ) (atom : ℕ → ℕ → Bool) (
       pub stated : Stated up by many atom picked s from (many s) (G x)
 
     comes_by : (s x : ℕ) (a v : Option ℕ) → made (up s) ≡ a → Went g G s a v → v ≡ Some x → Comes s x
-    comes_by s x a v e gone q = none_some x q
-    comes_by s x a v e (idle n) q = none_some x q
+    comes_by s x a v e gone q = absurd (none-some x q)
+    comes_by s x a v e (idle n) q = absurd (none-some x q)
     comes_by s x a v e (settled {h = h} {x = y} z u w p f) q =
-        let i : y ≡ x = some_same y x q in
+        let i : y ≡ x = same_Some y x q in
         subst (λ d. Comes s d) i (record { from = h; parent = e; before = w; less = u; more = z; crowd = p; stated = f })
 
     pub comes : (s x : ℕ) → 0 < s → s < t → made s ≡ Some x → Comes s x
@@ -128,7 +129,7 @@ module _ {V : Type 0} (up by many : ℕ → ℕ) (atom : ℕ → ℕ → Bool) (
         let from : a.4.from ≡ b.4.from = sym a.4.stated.parent ∙ p ∙ b.4.stated.parent in
         let hang : up a.0 ≡ up b.0 = c.apart (up a.0) (up b.0) b.4.from (omega (arith, lower a.0 a.1 a.2, a.2)) (omega (arith, lower b.0 b.1 b.2, b.2)) (a.4.parent ∙ ap Some from) b.4.parent in
         let same : a.0 ≡ b.0 = only b.0 b.1 b.2 b.4.crowd a.0 a.1 a.2 a.4.crowd hang (sym a.4.stated.role ∙ r ∙ b.4.stated.role) in
-        some_same x y (sym a.3 ∙ ap made same ∙ b.3)
+        same_Some x y (sym a.3 ∙ ap made same ∙ b.3)
 
     -- nothing hangs from the group of a slot's parent by the slot's role but the slot's own group
     module _ (s h : ℕ) (z : 0 < s) (l : s < t) (e : made (up s) ≡ Some h) (only : Only s) where
@@ -146,10 +147,10 @@ module _ {V : Type 0} (up by many : ℕ → ℕ) (atom : ℕ → ℕ → Bool) (
         pub lives : 0 < many s → (x : ℕ) × (o ≡ Some x)
 
       kept_by : (a v : Option ℕ) → a ≡ Some h → made s ≡ v → Went g G s a v → Kept v
-      kept_by a v q m gone = none_some h q
-      kept_by a v q m (idle n) = record { near = no_kin (λ x zx lx p r. none_some x (sym m ∙ hung x zx lx p r)); many_are = sym n; lives = λ u. absurd (omega arith) }
+      kept_by a v q m gone = absurd (none-some h q)
+      kept_by a v q m (idle n) = record { near = no_kin (λ x zx lx p r. none-some x (sym m ∙ hung x zx lx p r)); many_are = sym n; lives = λ u. absurd (omega arith) }
       kept_by a v q m (settled {h = j} {x = x} zx u w p f) = record {
-        near = kin zx u (f.parent ∙ some_same j h q) f.role;
+        near = kin zx u (f.parent ∙ same_Some j h q) f.role;
         many_are = f.headcount;
         lives = λ _. (x, refl);
       }

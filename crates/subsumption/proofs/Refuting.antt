@@ -1,5 +1,6 @@
 -- The groups that are written along the way to a row that asks for more are a countermodel. Assumes nothing.
 use Rattle.std.proofs.Common.{◌≡◌, ℕ, zero, suc, ◌+◌, ◌<◌, ◌≤◌, max, Bool, true, false, ◌⊎◌, Some, None, Option, sym, refl, ap, ◌∙◌, subst, inl, inr, ⊎_elim, arith}
+use Rattle.std.proofs.lemmas.Option.{same_Some}
 use Rattle.std.proofs.lemmas.Bool.{both_ways, cases_Bool, cases_lt, cases_eq}
 use Rattle.kinds.specs.Domain.{Domain}
 use Rattle.masks.specs.Masks.{has}
@@ -8,7 +9,7 @@ use Rattle.rows.specs.Numbers.{Under, Allows, ClosesOff, Limited}
 use Rattle.rows.specs.Shapes.{Shape, Coherent}
 use Rattle.rows.specs.declared.group.Group.{Group}
 use Rattle.rows.specs.declared.row.Row.{Row}
-use Rattle.rows.proofs.Fitting.{some_same, Lone, Kin, heads, Suits, Fitting, Trail, origin, onward, Fault, unsuited, miscounted, fitting_meets, fault_fails}
+use Rattle.rows.proofs.Fitting.{Lone, Kin, heads, Suits, Fitting, Trail, origin, onward, Fault, unsuited, miscounted, fitting_meets, fault_fails}
 use Rattle.rows.proofs.Groups.{owner_first}
 use Rattle.rows.proofs.RowFacts.{well_formed_lone, well_formed_peopled}
 use Rattle.subsumption.specs.Census.{Census}
@@ -345,7 +346,7 @@ module _ {R V : Type 0} (k : Domain R V) (P : ℕ → Row R) (n : ℕ) (Q : ℕ 
     stated_at : (s y : ℕ) → s < t → made s ≡ Some y → ((a : ℕ) → has (G y).atoms a ≡ atom s a) × picked s (G y).reading
     stated_at s y l e = ⊎_elim
         (λ z.
-        let q : 0 ≡ y = some_same 0 y (sym census.root ∙ subst (λ i. made i ≡ Some y) z e) in
+        let q : 0 ≡ y = same_Some 0 y (sym census.root ∙ subst (λ i. made i ≡ Some y) z e) in
         subst (λ i. ((a : ℕ) → has (G y).atoms a ≡ atom i a) × picked i (G y).reading) (sym z)
         (subst (λ i. ((a : ℕ) → has (G i).atoms a ≡ atom 0 a) × picked 0 (G i).reading) q (census.first.atoms, census.first.reading)))
         (λ nz. let a = counting.comes up by many atom picked t lower g G made census s y (omega arith) l e in (a.stated.atoms, a.stated.reading))

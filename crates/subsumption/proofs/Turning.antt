@@ -1,6 +1,6 @@
 -- Going through the rows of the second form, one after another. Assumes nothing.
-use Rattle.std.proofs.Common.{◌≡◌, ℕ, ◌+◌, ◌<◌, ◌≤◌, List, length, get_or, set, None, Option, sym, ◌∙◌, subst, ⊎_elim, arith}
-use Rattle.std.proofs.lemmas.List.{get_or_read, get_or-set_same, get_or-set_other}
+use Rattle.std.proofs.Common.{◌≡◌, ℕ, ◌+◌, ◌<◌, ◌≤◌, List, length, set, Err, None, Option, sym, ◌∙◌, subst, ⊎_elim, arith}
+use Rattle.std.proofs.lemmas.List.{get_or-set_same, get_or-set_other}
 use Rattle.std.proofs.lemmas.Bool.{cases_lt}
 use Rattle.kinds.specs.Domain.{Domain}
 use Rattle.rows.specs.Shapes.{Shaped}
@@ -8,10 +8,11 @@ use Rattle.rows.specs.Tables.{rows_of}
 use Rattle.rows.specs.declared.row.Row.{Row}
 use Rattle.subsumption.specs.Given.{row_gives, gives, Marked, Read, Met, shut, room, Lacks}
 use Rattle.subsumption.specs.Matches.{match_of, Reaches, Step, Matched, Stops, at_first, at_row}
-use Rattle.subsumption.specs.Outcome.{matches_of}
+use Rattle.subsumption.specs.Outcome.{matches_of, Decided}
 use Rattle.subsumption.specs.declared.gap.Match.{Match}
 use Rattle.subsumption.specs.declared.gap.Match.TheVariants.{At}
 use Rattle.subsumption.specs.declared.gap.Need.{Need}
+use Rattle.subsumption.specs.declared.gap.Short.{Short}
 
 module _ {R V : Type 0} (k : Domain R V) where
   -- row 0 allows fillers, so that a row that is met by it is met in its atoms and readings
@@ -28,31 +29,23 @@ module _ {R V : Type 0} (k : Domain R V) where
     Q = rows_of e ys
 
     -- row 0
-    pub matched_first : (x y : Row R) (w : Match) → Shaped xs → Shaped ys → 0 < length ms → x ≡ get_or xs 0 x → y ≡ get_or ys 0 y → Met k (row_gives k x) y (At 0) w
-        → Matched k P (length xs) Q (matches_of (set ms 0 (At 0))) 1
-    matched_first x y w sx sy room_for at there met =
-        let ex = get_or_read xs 0 x sx.0 at e in
-        let ey = get_or_read ys 0 y sy.0 there e in
-        let both = topmost_met x y w (subst (λ r. r.lower ≡ 0) (sym ex) (sx.1 e).bare.0) (subst (λ r. r.upper ≡ None) (sym ex) (sx.1 e).bare.1) met in
+    pub matched_first : (w : Match) → Shaped xs → 0 < length ms → Met k (row_gives k (P 0)) (Q 0) (At 0) w → Matched k P (length xs) Q (matches_of (set ms 0 (At 0))) 1
+    matched_first w shaped room_for met =
+        let both = topmost_met (P 0) (Q 0) w (shaped.1 e).bare.0 (shaped.1 e).bare.1 met in
         record {
           first = get_or-set_same ms 0 (At 0) (At 0) room_for;
-          marked = subst (λ r. Marked k (row_gives k r) (Q 0)) ex (subst (λ r. Marked k (row_gives k x) r) ey both.0);
-          read = subst (λ r. Read k (row_gives k r) (Q 0)) ex (subst (λ r. Read k (row_gives k x) r) ey both.1);
+          marked = both.0;
+          read = both.1;
           steps = λ i z l. absurd (omega arith);
         }
 
-    pub stopped_first : (x y : Row R) (need : Need) → Shaped xs → Shaped ys → 0 < length ms → x ≡ get_or xs 0 x → y ≡ get_or ys 0 y → Lacks k (row_gives k x) y need
-        → Stops k P (length xs) Q (matches_of (set ms 0 (At 0))) 0 (matches_of (set ms 0 (At 0)) 0) need
-    stopped_first x y need sx sy room_for at there lacks =
-        subst (λ w. Stops k P (length xs) Q (matches_of (set ms 0 (At 0))) 0 w need) (sym (get_or-set_same ms 0 (At 0) (At 0) room_for))
-        (at_first (subst (λ r. Lacks k (row_gives k r) (Q 0) need) (get_or_read xs 0 x sx.0 at e) (subst (λ r. Lacks k (row_gives k x) r need) (get_or_read ys 0 y sy.0 there e) lacks)))
+    pub stopped_first : (need : Need) → 0 < length ms → Lacks k (row_gives k (P 0)) (Q 0) need → Stops k P (length xs) Q (matches_of (set ms 0 (At 0))) 0 (matches_of (set ms 0 (At 0)) 0) need
+    stopped_first need room_for lacks =
+        subst (λ w. Stops k P (length xs) Q (matches_of (set ms 0 (At 0))) 0 w need) (sym (get_or-set_same ms 0 (At 0) (At 0) room_for)) (at_first lacks)
 
     -- a later row, whose match is set to w
-    module _ (c : ℕ) (y : Row R) (w : Match) (shaped : Shaped ys) (z : 0 < c) (l : c < length ys) (fits : c < length ms) (is : y ≡ get_or ys c y)
-        (before : Matched k P (length xs) Q (matches_of ms) c) where
-      row_is : y ≡ Q c
-      row_is = get_or_read ys c y l is e
-
+    module _ (c : ℕ) (w : Match) (shaped : Shaped ys) (z : 0 < c) (l : c < length ys) (fits : c < length ms) (before : Matched k P (length xs) Q (matches_of ms) c)
+        (up : Match) (up_is : up ≡ matches_of ms (Q c).parent) where
       parent_is : (Q c).parent < c
       parent_is = (shaped.1 e).parents c z l
 
@@ -61,6 +54,9 @@ module _ {R V : Type 0} (k : Domain R V) where
 
       here_is : matches_of (set ms c w) c ≡ w
       here_is = get_or-set_same ms c w (At 0) fits
+
+      up_now : up ≡ matches_of (set ms c w) (Q c).parent
+      up_now = up_is ∙ sym (same (Q c).parent parent_is)
 
       moved : Matched k P (length xs) Q (matches_of (set ms c w)) c
       moved = record {
@@ -72,7 +68,7 @@ module _ {R V : Type 0} (k : Domain R V) where
             (subst (λ b. Step k P (length xs) (Q i) (matches_of ms (Q i).parent) b) (sym (same i u)) (before.steps i zi u));
       }
 
-      pub matched_more : Step k P (length xs) y (matches_of ms y.parent) w → Matched k P (length xs) Q (matches_of (set ms c w)) (c + 1)
+      pub matched_more : Step k P (length xs) (Q c) up w → Matched k P (length xs) Q (matches_of (set ms c w)) (c + 1)
       matched_more step = record {
         first = moved.first;
         marked = moved.marked;
@@ -82,12 +78,18 @@ module _ {R V : Type 0} (k : Domain R V) where
         where
           last : Step k P (length xs) (Q c) (matches_of (set ms c w) (Q c).parent) (matches_of (set ms c w) c)
           last =
-              subst (λ a. Step k P (length xs) (Q c) a (matches_of (set ms c w) c)) (sym (same (Q c).parent parent_is))
-              (subst (λ b. Step k P (length xs) (Q c) (matches_of ms (Q c).parent) b) (sym here_is) (subst (λ r. Step k P (length xs) r (matches_of ms r.parent) w) row_is step))
+              subst (λ a. Step k P (length xs) (Q c) a (matches_of (set ms c w) c)) up_now (subst (λ b. Step k P (length xs) (Q c) up b) (sym here_is) step)
 
-      pub stopped_row : (o : Option ℕ) (need : Need) → Reaches k P (length xs) y.role (matches_of ms y.parent) o → w ≡ match_of o → Lacks k (gives k P o) y need
+      pub stopped_row : (o : Option ℕ) (need : Need) → Reaches k P (length xs) (Q c).role up o → w ≡ match_of o → Lacks k (gives k P o) (Q c) need
           → Stops k P (length xs) Q (matches_of (set ms c w)) c (matches_of (set ms c w) c) need
       stopped_row o need reaches match lacks =
           subst (λ a. Stops k P (length xs) Q (matches_of (set ms c w)) c a need) (sym (here_is ∙ match))
-          (at_row z moved (subst (λ a. Reaches k P (length xs) (Q c).role a o) (sym (same (Q c).parent parent_is)) (subst (λ r. Reaches k P (length xs) r.role (matches_of ms r.parent) o) row_is reaches))
-          (subst (λ r. Lacks k (gives k P o) r need) row_is lacks))
+          (at_row z moved (subst (λ a. Reaches k P (length xs) (Q c).role a o) up_now reaches) lacks)
+
+-- what was found out at a row is what is handed out
+pub decided_stop : {R V : Type 0} (k : Domain R V) (P : ℕ → Row R) (n : ℕ) (Q : ℕ → Row R) (m : ℕ) (M : ℕ → Match) (short : Short) (c : ℕ) (need : Need)
+    → short.row ≡ c → short.need ≡ need → c < m → Stops k P n Q M c (M c) need → Decided k P n Q m M (Err short)
+decided_stop k P n Q m M short c need e d l stops = (
+  omega (arith, e),
+  subst (λ i. Stops k P n Q M i (M i) short.need) (sym e) (subst (λ w. Stops k P n Q M c (M c) w) (sym d) stops),
+)

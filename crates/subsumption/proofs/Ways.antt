@@ -1,11 +1,11 @@
 -- The way to a row that asks for more, slot by slot. Assumes nothing.
 use Rattle.std.proofs.Common.{◌≡◌, ℕ, zero, suc, ◌+◌, ◌-◌, ◌<◌, ◌≤◌, ltb, ◌⊎◌, Some, None, Option, sym, refl, ap, ◌∙◌, subst, inl, inr, ⊎_elim, arith}
+use Rattle.std.proofs.lemmas.Option.{none-some}
 use Rattle.std.proofs.lemmas.Bool.{lt-ltb, le-ltb, cond-true, cond-false, cases_lt, cases_eq}
 use Rattle.kinds.specs.Domain.{Domain}
 use Rattle.rows.specs.Hanging.{child_in}
 use Rattle.rows.specs.Shapes.{Shape}
 use Rattle.rows.specs.declared.row.Row.{Row}
-use Rattle.rows.proofs.Fitting.{none_some}
 use Rattle.rows.proofs.Hanging.{child_some, child_none}
 use Rattle.rows.proofs.Shaping.{single}
 use Rattle.subsumption.specs.Given.{gives, Shut, Lacks, shut, room}
@@ -36,19 +36,6 @@ lineage_by Q m shape (suc fuel) i f l = ⊎_elim
 
 pub lineage : {R : Type 0} (Q : ℕ → Row R) (m : ℕ) → Shape Q m → (i : ℕ) → i < m → (d : ℕ) × Lineage Q i d
 lineage Q m shape i l = lineage_by Q m shape (suc i) i (omega arith) l
-
--- matches are told apart
-pub at_same : (a b : ℕ) → At a ≡ At b → a ≡ b
-at_same a b e = cc
-
-pub at_absent : {A : Type 0} (b : ℕ) → At b ≡ Absent → A
-at_absent b e = let z : ◌≡◌ {A = ℕ} 0 1 = cc in absurd (omega arith)
-
-at_passed : {A : Type 0} (b : ℕ) → At b ≡ Passed → A
-at_passed b e = let z : ◌≡◌ {A = ℕ} 0 1 = cc in absurd (omega arith)
-
-absent_passed : {A : Type 0} → Absent ≡ Passed → A
-absent_passed e = let z : ◌≡◌ {A = ℕ} 0 1 = cc in absurd (omega arith)
 
 -- Where the slots hang.
 module _ {R : Type 0} (P : ℕ → Row R) (n : ℕ) (Q : ℕ → Row R) (M : ℕ → Match) where
@@ -106,8 +93,8 @@ module _ {R V : Type 0} (k : Domain R V) (P : ℕ → Row R) (n : ℕ) (Q : ℕ 
     pub match : M i ≡ match_of found
 
   unpassed : (r : ℕ) (w : Match) (o : Option ℕ) → Reaches k P n r w o → w ≡ Passed → ⊥
-  unpassed r w o (below_row {a = a} e) q = at_passed a q
-  unpassed r w o below_none q = absent_passed q
+  unpassed r w o (below_row e) q = absurd (cc)
+  unpassed r w o below_none q = absurd (cc)
 
   entered_by : (q : Row R) (a b : Match) → Step k P n q a b → (b ≡ Passed → ⊥) → (o : Option ℕ) × Reaches k P n q.role a o × (b ≡ match_of o) × (Shut k (gives k P o) → ⊥)
   entered_by q a b passed h = absurd (h refl)
@@ -124,23 +111,23 @@ module _ {R V : Type 0} (k : Domain R V) (P : ℕ → Row R) (n : ℕ) (Q : ℕ 
       (cases_eq i c)
 
   found_at : (o : Option ℕ) (b : ℕ) → At b ≡ match_of o → o ≡ Some b
-  found_at None b q = at_absent b q
-  found_at (Some d) b q = ap Some (sym (at_same b d q))
+  found_at None b q = absurd (cc)
+  found_at (Some d) b q = cc
 
   -- what it is to be reached at a row
   below_by : (r b : ℕ) (w : Match) (o : Option ℕ) → Reaches k P n r w o → o ≡ Some b → (a : ℕ) × (w ≡ At a) × (child_in (hooks P) n a r ≡ Some b)
   below_by r b w o (below_row {a = a} q) h = (a, refl, sym q ∙ h)
-  below_by r b w o below_none h = none_some b h
+  below_by r b w o below_none h = absurd (none-some b h)
 
   under_row : (i b : ℕ) → 0 < i → i ≤ c → M i ≡ At b → (a : ℕ) × (M (Q i).parent ≡ At a) × (child_in (hooks P) n a (Q i).role ≡ Some b)
   under_row i b z l e =
-      let w = reached i z l (λ q. at_passed b (sym e ∙ q)) in
+      let w = reached i z l (λ q. cc) in
       below_by (Q i).role b (M (Q i).parent) w.found w.reaches (found_at w.found b (sym e ∙ w.match))
 
   -- matches up to row c are rows of the first form
   pub inside : (i b : ℕ) → i ≤ c → M i ≡ At b → b < n
   inside i b l e = ⊎_elim
-      (λ z. let q = at_same 0 b (sym root ∙ subst (λ x. M x ≡ At b) z e) in let w = shape.some in omega arith)
+      (λ z. let q : 0 ≡ b = (let first = subst (λ x. M x ≡ At b) z e in cc (root)) in let w = shape.some in omega arith)
       (λ nz. let w = under_row i b (omega arith) l e in (child_some (hooks P) n w.0 (Q i).role b w.2).1)
       (cases_eq i 0)
 
@@ -188,11 +175,11 @@ module _ {R V : Type 0} (k : Domain R V) (P : ℕ → Row R) (n : ℕ) (Q : ℕ 
     on_open zero l e = open_last (cases_eq c 0)
       where
         match_open : (o : Option ℕ) → match_of o ≡ Passed → ⊥
-        match_open None q = absent_passed q
-        match_open (Some b) q = at_passed b q
+        match_open None q = cc
+        match_open (Some b) q = cc
 
         open_last : (c ≡ 0) ⊎ (c ≡ 0 → ⊥) → ⊥
-        open_last (inl z) = at_passed 0 (sym root ∙ subst (λ y. M y ≡ Passed) z e)
+        open_last (inl z) = let first = subst (λ y. M y ≡ Passed) z e in cc (root)
         open_last (inr nz) = let w = last (omega arith) in match_open w.found (sym w.match ∙ sym is ∙ e)
     on_open (suc t) l e = let w = reached (on t) (line.rows t (omega arith)) (on_small t) (on_open t (omega arith)) in unpassed (Q (on t)).role (M (on (suc t))) w.found w.reaches e
 
@@ -211,13 +198,13 @@ module _ {R V : Type 0} (k : Domain R V) (P : ℕ → Row R) (n : ℕ) (Q : ℕ 
 
         match_once : (o p : Option ℕ) → match_of o ≡ match_of p → o ≡ p
         match_once None None q = refl
-        match_once None (Some b) q = at_absent b (sym q)
-        match_once (Some a) None q = at_absent a q
-        match_once (Some a) (Some b) q = ap Some (at_same a b q)
+        match_once None (Some b) q = absurd (cc)
+        match_once (Some a) None q = absurd (cc)
+        match_once (Some a) (Some b) q = cc
 
     -- row 0 is the end of the way, and alone has row 0 for its match
     top_match : (v b : ℕ) → v ≤ deep → deep ≤ v → M (on v) ≡ At b → b ≡ 0
-    top_match v b l h e = let w : v ≡ deep = omega arith in at_same b 0 (sym e ∙ ap (λ y. M (on y)) w ∙ ap M line.top ∙ root)
+    top_match v b l h e = let w : v ≡ deep = omega arith in let top = ap (λ y. M (on y)) w ∙ ap M line.top ∙ root in cc
 
     low_match : (v b : ℕ) → v < deep → M (on v) ≡ At b → (a : ℕ) × (M (on (suc v)) ≡ At a) × (a < b) × (b < n) × ((P b).parent ≡ a) × ((P b).role ≡ (Q (on v)).role)
     low_match v b l e =
@@ -324,7 +311,7 @@ module _ {R V : Type 0} (k : Domain R V) (P : ℕ → Row R) (n : ℕ) (Q : ℕ 
       where
         none : (o : Option ℕ) → Absent ≡ match_of o → o ≡ None
         none None q = refl
-        none (Some d) q = at_absent d (sym q)
+        none (Some d) q = absurd (cc)
 
         by : (o : Option ℕ) (v : Match) → Reaches k P n (Q (on t)).role v o → M (on (suc t)) ≡ v → o ≡ None → ⊥
         by o v (below_row {a = a} q) h no_row =

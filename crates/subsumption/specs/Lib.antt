@@ -1,4 +1,5 @@
 pub mod Given
+pub mod Demands
 pub mod Matches
 pub mod Inclusion
 pub mod Slots

@@ -1,5 +1,5 @@
 -- What comparing one row with another, and going through all rows, comes to. Assumes nothing.
-use Rattle.std.specs.Prelude.{◌≡◌, ℕ, ◌<◌, List, Some, None, Ok, Err, Option, Result, slice_index_or}
+use Rattle.std.specs.Prelude.{◌≡◌, ℕ, ◌<◌, List, Ok, Err, Option, Result, slice_index_or}
 use Rattle.kinds.specs.Domain.{Domain}
 use Rattle.rows.specs.declared.row.Row.{Row}
 use Rattle.subsumption.specs.Given.{Given, gives, Met, Lacks}
@@ -25,6 +25,6 @@ module _ {R V : Type 0} (k : Domain R V) where
   Turns P n q up (Err gap) = (o : Option ℕ) × Reaches k P n q.role up o × (gap.here ≡ match_of o) × Lacks k (gives k P o) q gap.need
 
   -- of all rows
-  abbrev pub Decided : (ℕ → Row R) → ℕ → (ℕ → Row R) → ℕ → (ℕ → Match) → Option Short → Type 0
-  Decided P n Q m M None = Matched k P n Q M m
-  Decided P n Q m M (Some short) = (short.row < m) × Stops k P n Q M short.row (M short.row) short.need
+  abbrev pub Decided : (ℕ → Row R) → ℕ → (ℕ → Row R) → ℕ → (ℕ → Match) → Result (Unit {0}) Short → Type 0
+  Decided P n Q m M (Ok done) = Matched k P n Q M m
+  Decided P n Q m M (Err short) = (short.row < m) × Stops k P n Q M short.row (M short.row) short.need

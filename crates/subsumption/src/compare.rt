@@ -12,5 +12,5 @@ pub fn subsumed<K: Kind>(p: &Form<'_, K>, q: &Form<'_, K>) -> bool
     ensures answer { Subsumes K.Kind.domain p.now.rows.now q.now.rows.now result }
 {
     let mut matches = [Match::Absent; MOST_ROWS];
-    decide(p.rows(), q.rows(), &mut matches).is_none()
+    decide(p, q, &mut matches).is_ok()
 }

@@ -1,21 +1,20 @@
 // Writing a countermodel: a table of groups whose first element meets the first form and not the second.
-ghost use Rattle.std.specs.Prelude.{◌≡◌, ℕ, ◌+◌, ◌<◌, ◌≤◌, length};
-ghost use Rattle.rows.specs.Shapes.{Shaped};
+ghost use Rattle.std.specs.Prelude.{◌≡◌, ℕ, ◌+◌, ◌<◌, length};
 ghost use Rattle.subsumption.specs.Written.{Picks, SlotIs, LikenessIs};
 
 use crate::gap::{Match, Need, Short};
-use crate::plan::slot;
+use crate::plan::{MOST_SLOTS, slot};
 use kinds::kind::Kind;
-use rows::group::Group;
-use rows::row::Row;
+use rows::form::Form;
+use rows::row::MOST_ROWS;
 
 // Two forms with what comparing them came to, and how many elements the slots on the way are to have.
 #[derive(Clone, Copy)]
 pub struct Plan<'a, K> {
-    pub first: &'a [Row<K>],
-    pub second: &'a [Row<K>],
-    pub matches: &'a [Match],
-    pub force: &'a [u16; 256],
+    pub first: &'a Form<'a, K>,
+    pub second: &'a Form<'a, K>,
+    pub matches: &'a [Match; MOST_ROWS],
+    pub force: &'a [u16; MOST_SLOTS],
     pub short: Short,
 }
 
@@ -39,13 +38,7 @@ fn pick<K: Kind>(given: &K, asked: &K, need: Need, ending: bool) -> K::Reading
     ensures { Picks K.Kind.domain given.now asked.now need ending result }
 {
     match need {
-        Need::Reading => {
-            if ending {
-                given.beyond(asked)
-            } else {
-                given.some()
-            }
-        }
+        Need::Reading if ending => given.beyond(asked),
         _ => given.some(),
     }
 }
@@ -53,24 +46,22 @@ fn pick<K: Kind>(given: &K, asked: &K, need: Need, ending: bool) -> K::Reading
 impl<'a, K: Kind> Plan<'a, K> {
     // Where a slot hangs, and how many elements it has.
     fn slot(&self, s: usize) -> Slot
-        requires first { Shaped self.now.first.now }
-        requires second { Shaped self.now.second.now }
-        requires matches { 128 ≤ length self.now.matches.now }
-        requires inside { s < length self.now.first.now + length self.now.second.now }
-        ensures value { SlotIs K.Kind.domain self.now.first.now self.now.second.now self.now.matches.now self.now.force.now s result }
-        ensures small { result.parent < 256 }
+        requires { s < length self.now.first.now.rows.now + length self.now.second.now.rows.now }
+        ensures value { SlotIs K.Kind.domain self.now.first.now.rows.now self.now.second.now.rows.now self.now.matches.now self.now.force.now s result }
+        ensures small { result.parent < MOST_SLOTS }
     {
-        let n = self.first.len();
+        let first = self.first.rows();
+        let n = first.len();
         if s < n {
-            let row = &self.first[s];
+            let row = &first[s];
             Slot {
-                parent: row.parent as usize,
+                parent: usize::from(row.parent),
                 role: row.role,
                 headcount: row.lower.max(self.force[s]),
             }
         } else {
-            let row = &self.second[s - n];
-            let parent = row.parent as usize;
+            let row = &self.second.rows()[s - n];
+            let parent = usize::from(row.parent);
             Slot {
                 parent: slot(n, parent, self.matches[parent]),
                 role: row.role,
@@ -81,18 +72,17 @@ impl<'a, K: Kind> Plan<'a, K> {
 
     // What the elements of a slot are like.
     fn likeness(&self, s: usize) -> Likeness<K::Reading>
-        requires first { Shaped self.now.first.now }
-        requires second { Shaped self.now.second.now }
-        requires matches { 128 ≤ length self.now.matches.now }
-        requires row { self.now.short.row < length self.now.second.now }
-        ensures { LikenessIs K.Kind.domain self.now.first.now self.now.second.now self.now.matches.now self.now.short s result }
+        requires { self.now.short.row < length self.now.second.now.rows.now }
+        ensures { LikenessIs K.Kind.domain self.now.first.now.rows.now self.now.second.now.rows.now self.now.matches.now self.now.short s result }
     {
-        let n = self.first.len();
+        let first = self.first.rows();
+        let second = self.second.rows();
+        let n = first.len();
         let c = self.short.row;
-        let asked = &self.second[c];
+        let asked = &second[c];
         let ending = s == slot(n, c, self.matches[c]);
         if s < n {
-            let row = &self.first[s];
+            let row = &first[s];
             Likeness {
                 atoms: row.atoms,
                 reading: pick(

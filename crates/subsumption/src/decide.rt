@@ -1,112 +1,69 @@
 // Going through the rows of the second form, each with what the first form has at its path.
-ghost use Rattle.std.specs.Prelude.{◌≡◌, ◌≤◌, length};
-ghost use Rattle.rows.specs.Numbers.{Under};
-ghost use Rattle.rows.specs.Shapes.{Shaped};
+ghost use Rattle.std.specs.Prelude.{◌<◌, length, IfSome};
 ghost use Rattle.rows.specs.Tables.{rows_of};
-ghost use Rattle.subsumption.specs.Given.{row_gives, silent as silence};
+ghost use Rattle.subsumption.specs.Demands.{Asks};
+ghost use Rattle.subsumption.specs.Given.{gives};
+ghost use Rattle.subsumption.specs.Matches.{match_of};
 ghost use Rattle.subsumption.specs.Outcome.{matches_of, Compares, Turns, Decided};
 
-use crate::gap::{Gap, Match, Need, Short};
+use crate::demand::Demand;
+use crate::gap::{Gap, Match, Short};
 use kinds::kind::Kind;
-use masks::is_subset;
-use rows::bounds::Bounds;
+use rows::form::Form;
 use rows::hung::child;
-use rows::row::Row;
+use rows::row::{MOST_ROWS, Row};
 
-// What silence gives, as a row.
-fn silent<K: Kind>() -> Row<K>
-    ensures gives { row_gives K.Kind.domain result ≡ silence K.Kind.domain }
-    ensures numbers { Under result.lower result.upper }
+// Whether `asked` asks for more than `p` gives at one of its rows, or by having none.
+fn weigh<K: Kind>(p: &Form<'_, K>, found: Option<usize>, asked: &Demand<K>) -> Result<Match, Gap>
+    requires { IfSome found (λ b. b < length p.now.rows.now) }
+    ensures { (e q : Row K) → Asks asked.now q → Compares K.Kind.domain (gives K.Kind.domain (rows_of e p.now.rows.now) found) q (match_of found) result }
 {
-    Row {
-        parent: 0,
-        role: 0,
-        lower: 0,
-        upper: None,
-        atoms: 0,
-        restriction: K::whole(),
+    match found {
+        None => Demand::silent().against(asked, Match::Absent),
+        Some(b) => Demand::of(p, b).against(asked, Match::At(b as u8)),
     }
 }
 
-// The numbers of a row whose lower one is not above its upper one.
-fn bounds<K>(row: &Row<K>) -> Bounds
-    requires { Under row.now.lower row.now.upper }
-    ensures { (result.lower ≡ row.now.lower) × (result.upper ≡ row.now.upper) }
+// The match of row `c` of `q` from that of its parent, or what it asks for that `p` does not give.
+fn turn<K: Kind>(p: &Form<'_, K>, q: &Form<'_, K>, c: usize, up: Match) -> Result<Match, Gap>
+    requires { c < length q.now.rows.now }
+    ensures { (e : Row K) → Turns K.Kind.domain (rows_of e p.now.rows.now) (length p.now.rows.now) (rows_of e q.now.rows.now c) up result }
 {
-    match Bounds::of(row) {
-        Some(found) => found,
-        None => unreachable(),
-    }
-}
-
-// Whether `asked` asks for more than `given` gives, where `here` is its match.
-fn against<K: Kind>(given: &Row<K>, asked: &Row<K>, here: Match) -> Result<Match, Gap>
-    requires { (Under given.now.lower given.now.upper) × (Under asked.now.lower asked.now.upper) }
-    ensures { Compares K.Kind.domain (row_gives K.Kind.domain given.now) asked.now here result }
-{
-    let own = bounds(given);
-    if let Some(count) = own.beyond(&bounds(asked)) {
-        let need = Need::Count(count);
-        return Err(Gap { here, need });
-    }
-    if own.is_closed() {
-        return Ok(Match::Passed);
-    }
-    if !is_subset(asked.atoms, given.atoms) {
-        let need = Need::Atoms;
-        return Err(Gap { here, need });
-    }
-    if !given.restriction.within(&asked.restriction) {
-        let need = Need::Reading;
-        return Err(Gap { here, need });
-    }
-    Ok(here)
-}
-
-// The match of a row of the second form from that of its parent, or what it asks for that the first does not give.
-fn turn<K: Kind>(p: &[Row<K>], asked: &Row<K>, up: Match) -> Result<Match, Gap>
-    requires shaped { Shaped p.now }
-    requires numbers { Under asked.now.lower asked.now.upper }
-    ensures { (e : Row K) → Turns K.Kind.domain (rows_of e p.now) (length p.now) asked.now up result }
-{
+    let asked = Demand::of(q, c);
     match up {
         Match::Passed => Ok(Match::Passed),
-        Match::Absent => against(&silent(), asked, Match::Absent),
-        Match::At(a) => match child(p, a as usize, asked.role) {
-            None => against(&silent(), asked, Match::Absent),
-            Some(b) => against(&p[b], asked, Match::At(b as u8)),
-        },
+        Match::Absent => weigh(p, None, &asked),
+        Match::At(a) => {
+            let found = child(p.rows(), usize::from(a), q.rows()[c].role);
+            weigh(p, found, &asked)
+        }
     }
 }
 
 // Whether a row of `q` asks for more than `p` gives, and what the first such row needs. `matches` gets the match of
 // each row up to that one.
-pub(crate) fn decide<K: Kind>(p: &[Row<K>], q: &[Row<K>], matches: &mut [Match]) -> Option<Short>
-    requires first { Shaped p.now }
-    requires second { Shaped q.now }
-    requires room { 128 ≤ length matches.old }
-    ensures { (e : Row K) → Decided K.Kind.domain (rows_of e p.now) (length p.now) (rows_of e q.now) (length q.now) (matches_of matches.new) result }
+pub(crate) fn decide<K: Kind>(
+    p: &Form<'_, K>,
+    q: &Form<'_, K>,
+    matches: &mut [Match; MOST_ROWS],
+) -> Result<(), Short>
+    ensures { (e : Row K) → Decided K.Kind.domain (rows_of e p.now.rows.now) (length p.now.rows.now) (rows_of e q.now.rows.now) (length q.now.rows.now) (matches_of matches.new) result }
 {
     matches[0] = Match::At(0);
-    if let Err(gap) = against(&p[0], &q[0], Match::At(0)) {
-        return Some(Short {
-            row: 0,
-            need: gap.need,
-        });
+    if let Err(gap) = weigh(p, Some(0), &Demand::of(q, 0)) {
+        return Err(gap.short(0));
     }
-    for c in 1..q.len() {
-        let asked = &q[c];
-        let up = matches[asked.parent as usize];
-        match turn(p, asked, up) {
+    let rows = q.rows();
+    // By index: each turn reads the match of an earlier row, and its own is written.
+    for c in 1..rows.len() {
+        let up = matches[usize::from(rows[c].parent)];
+        match turn(p, q, c, up) {
             Ok(here) => matches[c] = here,
             Err(gap) => {
                 matches[c] = gap.here;
-                return Some(Short {
-                    row: c,
-                    need: gap.need,
-                });
+                return Err(gap.short(c));
             }
         }
     }
-    None
+    Ok(())
 }

@@ -1,4 +1,5 @@
 // What the second form asks for at a row and the first does not give.
+ghost use Rattle.std.specs.Prelude.{◌≡◌};
 
 // What the first form has at the path of a row of the second.
 #[derive(Clone, Copy)]
@@ -34,4 +35,16 @@ pub struct Gap {
 pub struct Short {
     pub row: usize,
     pub need: Need,
+}
+
+impl Gap {
+    // What the row needs that has this gap.
+    pub(crate) fn short(&self, row: usize) -> Short
+        ensures { (result.row ≡ row) × (result.need ≡ self.now.need) }
+    {
+        Short {
+            row,
+            need: self.need,
+        }
+    }
 }

@@ -4,5 +4,6 @@
 pub mod compare;
 mod countermodel;
 mod decide;
+mod demand;
 mod gap;
 mod plan;

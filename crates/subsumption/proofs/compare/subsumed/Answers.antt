@@ -1,15 +1,10 @@
-use Rattle.std.proofs.Common.{List, subst₂}
-use Rattle.rows.specs.declared.row.Row.{Row}
-use Rattle.subsumption.specs.Answers.{Subsumes}
+use Rattle.rows.proofs.Clearing.{form_shaped}
 use Rattle.subsumption.specs.Outcome.{matches_of}
 use Rattle.subsumption.proofs.Deciding.{subsumes}
 use Rattle.subsumption.proofs.compare.subsumed.Goals as goal
 
 pub returns : goal.returns
-returns g c =
-    let k = g.K.Kind.domain in
-    let S : List (Row g.row.K.Denot) → List (Row g.row.K.Denot) → Type 0 = λ ps qs. Subsumes k ps qs c.is_none.result in
-    record {
-      answer = subst₂ S c.rows.ensures.value c.rows-2.ensures.value
-          (subsumes k c.rows.result.now c.rows-2.result.now c.rows.ensures.shaped c.rows-2.ensures.shaped (matches_of c.decide.new.matches) c.decide.result c.is_none.result c.decide.ensures c.is_none.ensures);
-    }
+returns g c = record {
+  answer = subsumes g.K.Kind.domain c.args.p.now.rows.now c.args.q.now.rows.now (form_shaped c.args.p.now) (form_shaped c.args.q.now) (matches_of c.decide.new.matches)
+      c.decide.result c.is_ok.result c.decide.ensures c.is_ok.ensures.value;
+}

@@ -1,65 +1,65 @@
-use Rattle.std.proofs.Common.{◌≡◌, ◌<◌, ◌≤◌, length, sym, subst, arith, length-set}
-use Rattle.rows.specs.Numbers.{Under}
+use Rattle.std.proofs.Common.{◌≡◌, ◌<◌, ◌≤◌, length, ap, ◌∙◌, subst, arith, length-set}
 use Rattle.rows.specs.Tables.{rows_of}
-use Rattle.rows.proofs.Clearing.{shaped_few}
+use Rattle.rows.proofs.Clearing.{form_shaped, shaped_few, row_at}
 use Rattle.subsumption.specs.Matches.{Matched}
 use Rattle.subsumption.specs.Outcome.{matches_of}
-use Rattle.subsumption.proofs.Turning.{matched_first, stopped_first, matched_more, stopped_row}
+use Rattle.subsumption.proofs.Turning.{matched_first, stopped_first, matched_more, stopped_row, decided_stop}
 use Rattle.subsumption.proofs.decide.decide.Goals as goal
 
 pub returns-in-Err : goal.returns-in-Err
-returns-in-Err g c e = (
-  c.requires.second.0,
-  stopped_first g.K.Kind.domain c.args.p.now c.args.q.now c.args.matches.now e c.index-p-0.result c.index-q-0.result c.in-Err.gap.need
-      c.requires.first c.requires.second (omega arith) c.index-p-0.is c.index-q-0.is c.in-Err.ensures.1,
-)
+returns-in-Err g c e =
+    let k = g.K.Kind.domain in
+    let ps = c.args.p.now.rows.now in
+    let qs = c.args.q.now.rows.now in
+    let lacks = c.in-Err.ensures e (rows_of e qs 0) (c.of.ensures e) in
+    decided_stop k (rows_of e ps) (length ps) (rows_of e qs) (length qs) _ c.short.result 0 c.in-Err.gap.need c.short.ensures.0 c.short.ensures.1 (omega arith)
+    (stopped_first k ps qs c.args.matches.now e c.in-Err.gap.need (omega arith) lacks.1)
 
 pub loop-c-init : goal.loop-c-init
-loop-c-init g c = (
-  simp length-set c.requires.room,
-  λ e.
-      matched_first g.K.Kind.domain c.args.p.now c.args.q.now c.args.matches.now e c.index-p-0.result c.index-q-0.result c.in_default.field-0
-      c.requires.first c.requires.second (omega arith) c.index-p-0.is c.index-q-0.is c.in_default.ensures,
-)
-
-pub slice_copy_out-up : goal.slice_copy_out-up
-slice_copy_out-up g c =
-    let row = c.index-q-c.result in
-    let parent : row.parent < c.loop-c.c = subst (λ x. x.parent < c.loop-c.c) (sym c.index-q-c.is) ((c.requires.second.1 row).parents c.loop-c.c (omega arith) c.loop-c-test.true) in
-    let few : length c.args.q.now ≤ 128 = shaped_few c.args.q.now c.requires.second in
-    let room : 128 ≤ length c.loop-c.matches = c.loop-c.invariant.0 in
-    omega arith
-
-pub turn-requires : goal.turn-requires
-turn-requires g c =
-    let row = c.index-q-c.result in
-    record {
-      shaped = c.requires.first;
-      numbers = subst (λ x. Under x.lower x.upper) (sym c.index-q-c.is) ((c.requires.second.1 row).numbers c.loop-c.c (omega arith) c.loop-c-test.true);
-    }
+loop-c-init g c =
+    let qs = c.args.q.now.rows.now in (
+      simp length-set (omega arith),
+      λ e.
+          matched_first g.K.Kind.domain c.args.p.now.rows.now qs c.args.matches.now e c.in_default.field-0 (form_shaped c.args.p.now) (omega arith)
+          (c.in_default.ensures e (rows_of e qs 0) (c.of.ensures e)),
+    )
 
 pub returns-in-Err-turn : goal.returns-in-Err-turn
 returns-in-Err-turn g c e =
-    let few : length c.args.q.now ≤ 128 = shaped_few c.args.q.now c.requires.second in
-    let room : 128 ≤ length c.loop-c.matches = c.loop-c.invariant.0 in
-    let h = c.in-Err-turn.ensures e in (
-      c.loop-c-test.true,
-      stopped_row g.K.Kind.domain c.args.p.now c.args.q.now c.loop-c.matches e c.loop-c.c c.index-q-c.result c.in-Err-turn.gap.here
-          c.requires.second (omega arith) c.loop-c-test.true (omega arith) c.index-q-c.is (c.loop-c.invariant.1 e) h.0 c.in-Err-turn.gap.need h.1 h.2 h.3,
-    )
+    let k = g.K.Kind.domain in
+    let ps = c.args.p.now.rows.now in
+    let qs = c.args.q.now.rows.now in
+    let i = c.loop-c.c in
+    let ms = c.loop-c.matches in
+    let gap = c.in-Err-turn.gap in
+    let shaped = form_shaped c.args.q.now in
+    let few : length qs ≤ 128 = shaped_few qs shaped in
+    let room : length ms ≡ 128 = c.loop-c.invariant.0 in
+    let same = c.rows-rows.ensures.value in
+    let l : i < length qs = omega (arith, ap length same) in
+    let up = ap (matches_of ms) (c.from.ensures ∙ ap (λ r. r.parent) (row_at c.rows-rows.result.now qs i c.index-rows-c.result e same l)) in
+    let h = c.in-Err-turn.ensures e in
+    decided_stop k (rows_of e ps) (length ps) (rows_of e qs) (length qs) _ c.short-in-Err-turn.result i gap.need c.short-in-Err-turn.ensures.0 c.short-in-Err-turn.ensures.1 l
+    (stopped_row k ps qs ms e i gap.here shaped (omega arith) l (omega arith) (c.loop-c.invariant.1 e) _ up h.0 gap.need h.1 h.2 h.3)
 
 pub loop-c-preserved : goal.loop-c-preserved
 loop-c-preserved g c =
-    let few : length c.args.q.now ≤ 128 = shaped_few c.args.q.now c.requires.second in
-    let room : 128 ≤ length c.loop-c.matches = c.loop-c.invariant.0 in (
+    let qs = c.args.q.now.rows.now in
+    let i = c.loop-c.c in
+    let ms = c.loop-c.matches in
+    let shaped = form_shaped c.args.q.now in
+    let few : length qs ≤ 128 = shaped_few qs shaped in
+    let room : length ms ≡ 128 = c.loop-c.invariant.0 in
+    let same = c.rows-rows.ensures.value in
+    let l : i < length qs = omega (arith, ap length same) in
+    let up = λ (e : _). ap (matches_of ms) (c.from.ensures ∙ ap (λ r. r.parent) (row_at c.rows-rows.result.now qs i c.index-rows-c.result e same l)) in (
       simp length-set room,
-      λ e.
-          matched_more g.K.Kind.domain c.args.p.now c.args.q.now c.loop-c.matches e c.loop-c.c c.index-q-c.result c.in-Ok.here
-          c.requires.second (omega arith) c.loop-c-test.true (omega arith) c.index-q-c.is (c.loop-c.invariant.1 e) (c.in-Ok.ensures e),
+      λ e. matched_more g.K.Kind.domain c.args.p.now.rows.now qs ms e i c.in-Ok.here shaped (omega arith) l (omega arith) (c.loop-c.invariant.1 e) _ (up e) (c.in-Ok.ensures e),
     )
 
 pub returns : goal.returns
 returns g c e =
-    let some : 0 < length c.args.q.now = c.requires.second.0 in
-    let end : c.loop-c.c ≡ length c.args.q.now = omega arith in
-    subst (λ i. Matched g.K.Kind.domain (rows_of e c.args.p.now) (length c.args.p.now) (rows_of e c.args.q.now) (matches_of c.loop-c.matches) i) end (c.loop-c.invariant.1 e)
+    let ps = c.args.p.now.rows.now in
+    let qs = c.args.q.now.rows.now in
+    let end : c.loop-c.c ≡ length qs = omega (arith, ap length c.rows-rows.ensures.value) in
+    subst (λ i. Matched g.K.Kind.domain (rows_of e ps) (length ps) (rows_of e qs) (matches_of c.loop-c.matches) i) end (c.loop-c.invariant.1 e)

@@ -14,9 +14,9 @@ abbrev pub invariant-loop-i : goal.invariant-loop-i
 invariant-loop-i g l =
     (l.i ≤ l.c)
     × (length l.force ≡ 256)
-    × ((e : Row g.row.K.Denot) (P : ℕ → Row g.row.K.Denot) (need : Need) (shaped : Shaped l.q) (small : l.c < length l.q) (shape : Shape P l.n)
-    (stops : Stops g.K.Kind.domain P l.n (rows_of e l.q) (matches_of l.matches) l.c (matches_of l.matches l.c) need)
-    → Marks g.K.Kind.domain P l.n (rows_of e l.q) (length l.q) (matches_of l.matches) shape (shaped.1 e) l.c need small stops l.count l.i l.most (force_of l.force))
+    × ((e : Row g.row.K.Denot) (P : ℕ → Row g.row.K.Denot) (need : Need) (shaped : Shaped l.q.rows.now) (small : l.c < length l.q.rows.now) (shape : Shape P l.n)
+    (stops : Stops g.K.Kind.domain P l.n (rows_of e l.q.rows.now) (matches_of l.matches) l.c (matches_of l.matches l.c) need)
+    → Marks g.K.Kind.domain P l.n (rows_of e l.q.rows.now) (length l.q.rows.now) (matches_of l.matches) shape (shaped.1 e) l.c need small stops l.count l.i l.most (force_of l.force))
 
 abbrev pub decreases-loop-i : goal.decreases-loop-i
 decreases-loop-i g l = l.i
