@@ -1,9 +1,9 @@
 -- Testing the rows of a slice. Assumes nothing.
-use Rattle.std.proofs.Common.{◌≡◌, ℕ, ◌+◌, ◌-◌, ◌<◌, ◌≤◌, Bool, true, false, List, length, get_or, take, drop, Decides, MatchBool, sym, refl, ap, ◌∙◌, subst, ⊎_elim, arith, length-drop}
+use Rattle.std.proofs.Common.{◌≡◌, ℕ, ◌+◌, ◌-◌, ◌<◌, ◌≤◌, Bool, true, false, List, length, get_or, take, drop, Decides, MatchBool, sym, refl, ap, ◌∙◌, subst, arith, length-drop}
 use Rattle.std.specs.List.{list_all, range_with_len, AllWithin, HoldsAt}
 use Rattle.std.proofs.lemmas.List.{get_or_read, get_or_default, get_or-take, get_or-drop, length-take-le}
 use Rattle.std.proofs.lemmas.List.FromFn.{length-range_with_len, get_or-range_with_len}
-use Rattle.std.proofs.lemmas.Bool.{false≢true, cases_eq}
+use Rattle.std.proofs.lemmas.Bool.{false≢true}
 use Rattle.std.proofs.lemmas.Bool.Decides.{same_from_decides, Decides-like, Decides-by_and}
 use Rattle.concepts.proofs.Verdicts.{element}
 use Rattle.rows.specs.Shapes.{every, precedes, clear, row_fine, Fine, Shaped}
@@ -78,13 +78,6 @@ module _ {R : Type 0} (xs : List (Row R)) where
 
   pub shaped_few : Shaped xs → length xs ≤ 128
   shaped_few shaped = (shaped.1 (element xs 0 shaped.0).0).few
-
-  -- the row that a row hangs from is one of them
-  pub shaped_parent : Shaped xs → (c : ℕ) (e : Row R) → c < length xs → (get_or xs c e).parent < length xs
-  shaped_parent shaped c e l = ⊎_elim
-      (λ z. let top : (get_or xs c e).parent ≡ 0 = ap (λ i. (get_or xs i e).parent) z ∙ (shaped.1 e).first.0 in omega (arith, shaped.0))
-      (λ nz. let p : (get_or xs c e).parent < c = (shaped.1 e).parents c (omega arith) l in omega arith)
-      (cases_eq c 0)
 
   pub shaped_fine : Shaped xs → Fine xs
   shaped_fine shaped e c l = shape_fine (rows_of e xs) (length xs) (shaped.1 e) c l

@@ -1,10 +1,12 @@
 -- Each group has as many elements as its headcount says, and they are all the fillers of their role. Assumes nothing.
-use Rattle.std.proofs.Common.{◌≡◌, ℕ, zero, suc, ◌+◌, ◌<◌, ◌≤◌, Bool, true, false, ◌&&◌, eqb, ltb, ◌⊎◌, sym, refl, ap, ◌∙◌, subst, inl, inr, ⊎_elim, add-zero, add-suc, arith}
-use Rattle.std.proofs.lemmas.Bool.{both_ways, and_parts, and_from, lt-ltb, le-ltb, ltb-true, eq-eqb, ne_eqb, eqb-true, cases_Bool, cases_eq, cases_lt}
+use Rattle.std.proofs.Common.{◌≡◌, ℕ, zero, suc, ◌+◌, ◌<◌, ◌≤◌, Bool, true, false, eqb, ltb, ◌⊎◌, sym, refl, ap, ◌∙◌, subst, inl, inr, ⊎_elim, add-zero, add-suc, arith}
+use Rattle.std.proofs.lemmas.Bool.{both_ways, and_parts, and_from, lt-ltb, le-ltb, ltb-true, eq-eqb, ne_eqb, cases_Bool, cases_eq, cases_lt}
 use Rattle.kinds.specs.Domain.{Domain}
 use Rattle.concepts.specs.Interpretations.{Interpretation, how_many, one_if}
 use Rattle.rows.specs.Groups.{total, owner, hangs, owner_below, world_of}
+use Rattle.rows.specs.Hanging.{Hook}
 use Rattle.rows.specs.declared.group.Group.{Group}
+use Rattle.rows.proofs.Hanging.{hangs_true, true_hangs}
 
 -- tests that agree below n pass as many
 pub count_same : (f g : ℕ → Bool) (n : ℕ) → ((j : ℕ) → j < n → f j ≡ g j) → how_many f n ≡ how_many g n
@@ -72,17 +74,18 @@ module _ {V : Type 0} (G : ℕ → Group V) where
   pub owner_first : (n : ℕ) → 0 < n → 0 < (G 0).headcount → owner G n 0 ≡ 0
   owner_first n l h = (copy n 0 0 l h).1
 
+  abbrev hook : ℕ → Hook
+  hook g = ((G g).parent, (G g).role)
+
   -- what it is for a group to hang from another
   pub hangs_parts : (p r g : ℕ) → hangs G p r g ≡ true → (0 < g) × ((G g).parent ≡ p) × ((G g).role ≡ r)
   hangs_parts p r g e =
-      let q = and_parts (ltb 0 g) (eqb (G g).parent p && eqb (G g).role r) e in
-      let s = and_parts (eqb (G g).parent p) (eqb (G g).role r) q.1 in
-      (ltb-true 0 g q.0, eqb-true (G g).parent p s.0, eqb-true (G g).role r s.1)
+      let q = and_parts (ltb 0 g) _ e in
+      let s = hangs_true hook p r g q.1 in
+      (ltb-true 0 g q.0, s.parent, s.role)
 
   pub hangs_from : (p r g : ℕ) → 0 < g → (G g).parent ≡ p → (G g).role ≡ r → hangs G p r g ≡ true
-  hangs_from p r g z a b =
-      and_from (ltb 0 g) (eqb (G g).parent p && eqb (G g).role r) (lt-ltb 0 g z)
-      (and_from (eqb (G g).parent p) (eqb (G g).role r) (eq-eqb (G g).parent p a) (eq-eqb (G g).role r b))
+  hangs_from p r g z a b = and_from (ltb 0 g) _ (lt-ltb 0 g z) (true_hangs hook p r g (record { parent = a; role = b }))
 
   -- no other group below n hangs where g does
   abbrev pub Alone : ℕ → ℕ → ℕ → ℕ → Type 0

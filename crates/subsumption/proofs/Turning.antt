@@ -1,11 +1,12 @@
 -- Going through the rows of the second form, one after another. Assumes nothing.
-use Rattle.std.proofs.Common.{◌≡◌, ℕ, ◌+◌, ◌<◌, ◌≤◌, List, length, set, Err, None, Option, sym, ◌∙◌, subst, ⊎_elim, arith}
+use Rattle.std.proofs.Common.{◌≡◌, ℕ, ◌+◌, ◌<◌, ◌≤◌, List, length, get_or, set, Err, None, Option, sym, ap, ◌∙◌, subst, ⊎_elim, arith}
 use Rattle.std.proofs.lemmas.List.{get_or-set_same, get_or-set_other}
 use Rattle.std.proofs.lemmas.Bool.{cases_lt}
 use Rattle.kinds.specs.Domain.{Domain}
 use Rattle.rows.specs.Shapes.{Shaped}
 use Rattle.rows.specs.Tables.{rows_of}
 use Rattle.rows.specs.declared.row.Row.{Row}
+use Rattle.rows.proofs.Clearing.{shaped_few, row_at}
 use Rattle.subsumption.specs.Given.{row_gives, gives, Marked, Read, Met, shut, room, Lacks}
 use Rattle.subsumption.specs.Matches.{match_of, Reaches, Step, Matched, Stops, at_first, at_row}
 use Rattle.subsumption.specs.Outcome.{matches_of, Decided}
@@ -44,8 +45,21 @@ module _ {R V : Type 0} (k : Domain R V) where
         subst (λ w. Stops k P (length xs) Q (matches_of (set ms 0 (At 0))) 0 w need) (sym (get_or-set_same ms 0 (At 0) (At 0) room_for)) (at_first lacks)
 
     -- a later row, whose match is set to w
-    module _ (c : ℕ) (w : Match) (shaped : Shaped ys) (z : 0 < c) (l : c < length ys) (fits : c < length ms) (before : Matched k P (length xs) Q (matches_of ms) c)
-        (up : Match) (up_is : up ≡ matches_of ms (Q c).parent) where
+    -- as the loop comes to it, by the row that it reads at its number
+    module _ (c : ℕ) (w : Match) (shaped : Shaped ys) (z : 0 < c) (rows : List (Row R)) (is : rows ≡ ys) (there : c < length rows) (room : length ms ≡ 128)
+        (row : Row R) (p : ℕ) (p_is : p ≡ (get_or rows c row).parent) (before : Matched k P (length xs) Q (matches_of ms) c) where
+      l : c < length ys
+      l = omega (arith, ap length is)
+
+      fits : c < length ms
+      fits = omega (arith, l, shaped_few ys shaped)
+
+      abbrev up : Match
+      up = matches_of ms p
+
+      up_is : up ≡ matches_of ms (Q c).parent
+      up_is = ap (matches_of ms) (p_is ∙ ap (λ r. r.parent) (row_at rows ys c row e is l))
+
       parent_is : (Q c).parent < c
       parent_is = (shaped.1 e).parents c z l
 
@@ -64,7 +78,7 @@ module _ {R V : Type 0} (k : Domain R V) where
         marked = before.marked;
         read = before.read;
         steps = λ i zi u.
-            subst (λ a. Step k P (length xs) (Q i) a (matches_of (set ms c w) i)) (sym (same (Q i).parent (let p = (shaped.1 e).parents i zi (omega arith) in omega arith)))
+            subst (λ a. Step k P (length xs) (Q i) a (matches_of (set ms c w) i)) (sym (same (Q i).parent (let q = (shaped.1 e).parents i zi (omega (arith, l)) in omega arith)))
             (subst (λ b. Step k P (length xs) (Q i) (matches_of ms (Q i).parent) b) (sym (same i u)) (before.steps i zi u));
       }
 

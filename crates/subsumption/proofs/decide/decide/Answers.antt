@@ -1,6 +1,6 @@
-use Rattle.std.proofs.Common.{◌≡◌, ◌<◌, ◌≤◌, length, ap, ◌∙◌, subst, arith, length-set}
+use Rattle.std.proofs.Common.{◌≡◌, length, ap, subst, arith, length-set}
 use Rattle.rows.specs.Tables.{rows_of}
-use Rattle.rows.proofs.Clearing.{form_shaped, shaped_few, row_at}
+use Rattle.rows.proofs.Clearing.{form_shaped}
 use Rattle.subsumption.specs.Matches.{Matched}
 use Rattle.subsumption.specs.Outcome.{matches_of}
 use Rattle.subsumption.proofs.Turning.{matched_first, stopped_first, matched_more, stopped_row, decided_stop}
@@ -29,33 +29,21 @@ returns-in-Err-turn g c e =
     let k = g.K.Kind.domain in
     let ps = c.args.p.now.rows.now in
     let qs = c.args.q.now.rows.now in
-    let i = c.loop-c.c in
-    let ms = c.loop-c.matches in
     let gap = c.in-Err-turn.gap in
-    let shaped = form_shaped c.args.q.now in
-    let few : length qs ≤ 128 = shaped_few qs shaped in
-    let room : length ms ≡ 128 = c.loop-c.invariant.0 in
     let same = c.rows-rows.ensures.value in
-    let l : i < length qs = omega (arith, ap length same) in
-    let up = ap (matches_of ms) (c.from.ensures ∙ ap (λ r. r.parent) (row_at c.rows-rows.result.now qs i c.index-rows-c.result e same l)) in
     let h = c.in-Err-turn.ensures e in
-    decided_stop k (rows_of e ps) (length ps) (rows_of e qs) (length qs) _ c.short-in-Err-turn.result i gap.need c.short-in-Err-turn.ensures.0 c.short-in-Err-turn.ensures.1 l
-    (stopped_row k ps qs ms e i gap.here shaped (omega arith) l (omega arith) (c.loop-c.invariant.1 e) _ up h.0 gap.need h.1 h.2 h.3)
+    decided_stop k (rows_of e ps) (length ps) (rows_of e qs) (length qs) _ c.short-in-Err-turn.result c.loop-c.c gap.need c.short-in-Err-turn.ensures.0 c.short-in-Err-turn.ensures.1
+    (omega (arith, ap length same))
+    (stopped_row k ps qs c.loop-c.matches e c.loop-c.c gap.here (form_shaped c.args.q.now) (omega arith) c.rows-rows.result.now same c.loop-c-test.true c.loop-c.invariant.0
+    c.index-rows-c.result _ c.from.ensures (c.loop-c.invariant.1 e) h.0 gap.need h.1 h.2 h.3)
 
 pub loop-c-preserved : goal.loop-c-preserved
-loop-c-preserved g c =
-    let qs = c.args.q.now.rows.now in
-    let i = c.loop-c.c in
-    let ms = c.loop-c.matches in
-    let shaped = form_shaped c.args.q.now in
-    let few : length qs ≤ 128 = shaped_few qs shaped in
-    let room : length ms ≡ 128 = c.loop-c.invariant.0 in
-    let same = c.rows-rows.ensures.value in
-    let l : i < length qs = omega (arith, ap length same) in
-    let up = λ (e : _). ap (matches_of ms) (c.from.ensures ∙ ap (λ r. r.parent) (row_at c.rows-rows.result.now qs i c.index-rows-c.result e same l)) in (
-      simp length-set room,
-      λ e. matched_more g.K.Kind.domain c.args.p.now.rows.now qs ms e i c.in-Ok.here shaped (omega arith) l (omega arith) (c.loop-c.invariant.1 e) _ (up e) (c.in-Ok.ensures e),
-    )
+loop-c-preserved g c = (
+  simp length-set c.loop-c.invariant.0,
+  λ e.
+      matched_more g.K.Kind.domain c.args.p.now.rows.now c.args.q.now.rows.now c.loop-c.matches e c.loop-c.c c.in-Ok.here (form_shaped c.args.q.now) (omega arith)
+      c.rows-rows.result.now c.rows-rows.ensures.value c.loop-c-test.true c.loop-c.invariant.0 c.index-rows-c.result _ c.from.ensures (c.loop-c.invariant.1 e) (c.in-Ok.ensures e),
+)
 
 pub returns : goal.returns
 returns g c e =

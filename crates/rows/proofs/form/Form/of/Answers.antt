@@ -9,26 +9,17 @@ use Rattle.rows.proofs.form.Form.of.Goals.{
   then-is_empty-via-else-is_empty+else-rows-gt-MOST_ROWS+then-not-all_stand,
 }
 
-pub returns-then-is_empty : goal.returns-then-is_empty
-returns-then-is_empty g c =
-    let xs = c.args.rows.now in
-    record {
-      answer = (
-        λ e. absurd (false≢true e),
-        λ shaped. absurd (elim c.then-is_empty.branch [
-          | then-is_empty-via-then-is_empty w ↦ omega (arith, shaped.0, eqb-true (length xs) 0 (sym w.if-is_empty.ensures))
-          | then-is_empty-via-else-is_empty+then-rows-gt-MOST_ROWS w ↦ omega (arith, shaped_few xs shaped, w.if-rows-gt-MOST_ROWS.true)
-          | then-is_empty-via-else-is_empty+else-rows-gt-MOST_ROWS+then-not-all_stand w ↦ not_from_Decides _ w.all_stand.ensures w.if-not-all_stand.true (shaped_fine xs shaped)
-        ]),
-      );
-      rows = tt;
-    }
+pub returns-then-is_empty-clause-answer : goal.returns-then-is_empty-clause-answer
+returns-then-is_empty-clause-answer g c =
+    let xs = c.args.rows.now in (
+      λ e. absurd (false≢true e),
+      λ shaped. absurd (elim c.then-is_empty.branch [
+        | then-is_empty-via-then-is_empty w ↦ omega (arith, shaped.0, eqb-true (length xs) 0 (sym w.if-is_empty.ensures))
+        | then-is_empty-via-else-is_empty+then-rows-gt-MOST_ROWS w ↦ omega (arith, shaped_few xs shaped, w.if-rows-gt-MOST_ROWS.true)
+        | then-is_empty-via-else-is_empty+else-rows-gt-MOST_ROWS+then-not-all_stand w ↦ not_from_Decides _ w.all_stand.ensures w.if-not-all_stand.true (shaped_fine xs shaped)
+      ]),
+    )
 
-pub invariant_of-result-clause-fine : goal.invariant_of-result-clause-fine
-invariant_of-result-clause-fine g c = c.all_stand.ensures.0 c.if-not-all_stand.false
-
-pub returns : goal.returns
-returns g c = record {
-  answer = (λ _. fine_shaped c.args.rows.now (grind (arith, nat_tests)) c.if-rows-gt-MOST_ROWS.false (c.all_stand.ensures.0 c.if-not-all_stand.false), λ _. refl);
-  rows = refl;
-}
+pub returns-clause-answer : goal.returns-clause-answer
+returns-clause-answer g c =
+    (λ _. fine_shaped c.args.rows.now (grind (arith, nat_tests)) c.if-rows-gt-MOST_ROWS.false (c.all_stand.ensures.0 c.if-not-all_stand.false), λ _. refl)

@@ -1,6 +1,5 @@
-use Rattle.std.proofs.Common.{refl}
 use Rattle.rows.proofs.Clearing.{form_shaped}
 use Rattle.rows.proofs.form.Form.rows.Goals as goal
 
-pub returns : goal.returns
-returns g c = record { value = refl; shaped = form_shaped c.args.self.now }
+pub returns-clause-shaped : goal.returns-clause-shaped
+returns-clause-shaped g c = form_shaped c.args.self.now
