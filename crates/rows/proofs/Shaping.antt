@@ -1,5 +1,6 @@
 -- Rows that may each stand where they do stand in the order of their paths, and the other way round. Assumes nothing.
 use Rattle.std.proofs.Common.{◌≡◌, ℕ, zero, suc, ◌<◌, ◌≤◌, Bool, true, not, ◌&&◌, eqb, ltb, leb, ◌⊎◌, List, [], ◌∷◌, ◌++◌, is_some, Some, None, Option, sym, refl, ap, ◌∙◌, subst, inl, inr, ⊎_elim, append_assoc, append-nil, arith}
+use Rattle.std.proofs.lemmas.List.{append_cancel_left}
 use Rattle.std.proofs.lemmas.Bool.{false≢true, and_parts, and_from, or_cases, or_left, or_right, lt-ltb, ltb-true, le-leb, leb-true, eq-eqb, ne_eqb, eqb-true, cond-false, cases_eq, cases_lt, cases_order}
 use Rattle.rows.specs.Numbers.{Under, in_order, Limited, limited}
 use Rattle.rows.specs.Tables.{then_role, Stands, below, Before, shorter, lower_role, later}
@@ -7,11 +8,6 @@ use Rattle.rows.specs.Shapes.{Shape, every, precedes, clear, later_fine, row_fin
 use Rattle.rows.specs.declared.row.Row.{Row}
 use Rattle.rows.proofs.Standing.{stands_by, front_of, stands_once, before_apart}
 use Rattle.rows.proofs.Rooted.{Earlier, Single, parent_path}
-
--- a path comes before what extends it
-before_then : (σ : List ℕ) (r : ℕ) → Before σ (then_role σ r)
-before_then [] r = shorter
-before_then (x ∷ σ) r = later (before_then σ r)
 
 before_longer : {π σ : List ℕ} (τ : List ℕ) → Before π σ → Before π (σ ++ τ)
 before_longer τ shorter = shorter
@@ -22,6 +18,7 @@ before_branch : (σ : List ℕ) (s r : ℕ) (τ ρ : List ℕ) → s < r → Bef
 before_branch [] s r τ ρ l = lower_role l
 before_branch (x ∷ σ) s r τ ρ l = later (before_branch σ s r τ ρ l)
 
+-- a path comes before what extends it
 before_further : (σ : List ℕ) (s : ℕ) (τ : List ℕ) → Before σ (σ ++ (s ∷ τ))
 before_further [] s τ = shorter
 before_further (x ∷ σ) s τ = later (before_further σ s τ)
@@ -49,14 +46,6 @@ between (x ∷ σ) (y ∷ π) r p q = go (before_heads p) (before_heads q) (betw
     go (inl l) (inr m) rest = absurd (omega (arith, m.0))
     go (inr l) (inl m) rest = absurd (omega (arith, l.0))
     go (inr l) (inr m) rest = let w = rest l.1 m.1 in (w.0, w.1, ap (λ z. z ∷ π) (sym l.0) ∙ ap (λ z. x ∷ z) w.2, w.3)
-
--- what follows the same front is the same
-cancel : (σ π ρ : List ℕ) → σ ++ π ≡ σ ++ ρ → π ≡ ρ
-cancel [] π ρ e = e
-cancel (x ∷ σ) π ρ e = cancel σ π ρ (cc)
-
-heads : (x y : ℕ) (π ρ : List ℕ) → x ∷ π ≡ y ∷ ρ → x ≡ y
-heads x y π ρ e = cc
 
 -- no two paths come before each other
 crossed : (π ρ : List ℕ) → Before π ρ → Before ρ π → ⊥
@@ -105,7 +94,7 @@ module _ {R : Type 0} (T : ℕ → Row R) where
           (stands_by T c ρ here)
         where
           go : (σ : List ℕ) → Stands T (T c).parent σ → (b < (T c).parent → Before π σ) → (b ≡ (T c).parent) ⊎ ((b < (T c).parent) ⊎ ((T c).parent < b)) → Before π (then_role σ (T c).role)
-          go σ up rest (inl e) = subst (λ x. Before x (then_role σ (T c).role)) (stands_once T (T c).parent σ π up (subst (λ x. Stands T x π) e at)) (before_then σ (T c).role)
+          go σ up rest (inl e) = subst (λ x. Before x (then_role σ (T c).role)) (stands_once T (T c).parent σ π up (subst (λ x. Stands T x π) e at)) (before_further σ (T c).role [])
           go σ up rest (inr (inl low)) = before_longer ((T c).role ∷ []) (rest low)
           go σ up rest (inr (inr high)) =
               let w = inside (suc b) b c σ π (omega arith) (omega arith) h high l up at in
@@ -152,10 +141,13 @@ module _ {R : Type 0} (T : ℕ → Row R) where
         where
           go : (σ ρ : List ℕ) → Stands T (T c).parent σ → Stands T (T b).parent ρ → (s : ℕ) (τ : List ℕ) → then_role ρ (T b).role ≡ σ ++ (s ∷ τ) → s < (T c).role
               → (ω : List ℕ) × (ρ ≡ σ ++ ω) → ((T c).parent < (T b).parent) ⊎ (((T b).parent ≡ (T c).parent) × ((T b).role < (T c).role))
-          go σ ρ up at s τ e l ([], q) = inr (same, subst (λ x. x < (T c).role) (sym (heads (T b).role s [] τ (cancel σ ((T b).role ∷ []) (s ∷ τ) (ap (λ x. then_role x (T b).role) (sym level) ∙ e)))) l)
+          go σ ρ up at s τ e l ([], q) = inr (same, subst (λ x. x < (T c).role) (sym first) l)
             where
               level : ρ ≡ σ
               level = q ∙ append-nil σ
+
+              first : (T b).role ≡ s
+              first = let ends = append_cancel_left σ ((T b).role ∷ []) (s ∷ τ) (ap (λ x. then_role x (T b).role) (sym level) ∙ e) in cc
 
               same : (T b).parent ≡ (T c).parent
               same = one_row (T b).parent (T c).parent ρ σ (omega (arith, earlier b (omega arith) (omega arith))) (omega (arith, earlier c some h)) at up level

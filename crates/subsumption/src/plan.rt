@@ -17,7 +17,7 @@ pub(crate) const MOST_SLOTS: usize = 2 * MOST_ROWS;
 
 // The slot of row `i` of the second form, by its match, where the first has `n` rows.
 pub(crate) fn slot(n: usize, i: usize, here: Match) -> usize
-    requires { (n ≤ 128) × (i < 128) }
+    requires { (n ≤ MOST_ROWS) × (i < MOST_ROWS) }
     ensures value { result ≡ slot_of n i here }
     ensures small { result < MOST_SLOTS }
 {
@@ -35,7 +35,7 @@ pub(crate) fn mark_way<K: Kind>(
     c: usize,
     count: u16,
 ) -> [u16; MOST_SLOTS]
-    requires few { n ≤ 128 }
+    requires few { n ≤ MOST_ROWS }
     requires row { c < length q.now.rows.now }
     ensures { (e : Row K) (P : ℕ → Row K) (need : Need) → Shape P n → Stops K.Kind.domain P n (rows_of e q.now.rows.now) (matches_of matches.now) c (matches_of matches.now c) need → Forced P n (rows_of e q.now.rows.now) (matches_of matches.now) c count (force_of result) }
 {
