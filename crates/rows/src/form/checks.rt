@@ -89,7 +89,7 @@ fn all_stand<K>(rows: &[Row<K>]) -> bool
 }
 
 impl<'a, K> Form<'a, K> {
-    // The rows as a form, where they are well formed. Which row is not does not matter to callers, so `None` says it.
+    // The rows as a form, where they are well formed. No caller asks which row is not, so an error type would say no more.
     pub fn of(rows: &'a [Row<K>]) -> Option<Form<'a, K>>
         ensures answer { Decides (is_some result) (Shaped rows.now) }
         ensures rows { IfSome result (λ f. f.rows.now ≡ rows.now) }
