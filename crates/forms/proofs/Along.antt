@@ -3,7 +3,7 @@ use Rattle.std.proofs.Common.{◌≡◌, ℕ, ◌<◌, true, List, [], ◌∷◌
 use Rattle.kinds.specs.Domain.{Domain}
 use Rattle.concepts.specs.Interpretations.{Interpretation}
 use Rattle.forms.specs.Paths.{Along}
-use Rattle.forms.specs.Tables.{then_role}
+use Rattle.rows.specs.Tables.{then_role}
 
 module _ {R V : Type 0} {k : Domain R V} (y : Interpretation k) where
   -- the two parts of a path

@@ -4,18 +4,18 @@ use Rattle.std.specs.Option.{option_map}
 use Rattle.std.proofs.ByRecursion.{All-push}
 use Rattle.concepts.specs.Weights.{rows_at}
 use Rattle.forms.specs.Blocks.{block_of}
-use Rattle.forms.specs.Tables.{rows_of}
+use Rattle.rows.specs.Tables.{rows_of}
 use Rattle.std.specs.List.{AllByRecursion}
 use Rattle.std.proofs.lemmas.Bool.{or_cases, or_left, or_right, and_parts, and_from}
 use Rattle.kinds.specs.Domain.{Domain}
 use Rattle.concepts.specs.declared.node.Node.{Node}
 use Rattle.concepts.specs.Tables.{is_nothing, is_prim, is_within, is_and, is_all, is_at_least, is_at_most, is_entry}
 use Rattle.forms.specs.Labels.{Label, silent}
-use Rattle.forms.specs.Tables.{then_role}
+use Rattle.rows.specs.Tables.{then_role}
 use Rattle.forms.specs.Sheets.{Form, child, onward, find, sheet_form, plain_form, both_forms, below_role, under_form, form_of, node_form}
 use Rattle.forms.specs.Seen.{entries}
 use Rattle.forms.specs.Walks.{whole_form}
-use Rattle.forms.specs.declared.row.Row.{Row}
+use Rattle.rows.specs.declared.row.Row.{Row}
 
 -- the empty path is written, and what leads to a written path
 pub record Fronted {V : Type 0} (f : Form V) : Type 0 where

@@ -2,9 +2,10 @@
 use Rattle.std.proofs.Common.{◌≡◌, ℕ, ◌<◌, ◌≤◌, min, Bool, true, false, cond, ◌&&◌, eqb, List, [], ◌∷◌, Some, None, Option, sym, refl, ap, ◌∙◌, subst, inl, inr, ⊎_elim, arith}
 use Rattle.std.proofs.lemmas.Bool.{cases_Bool, eqb-true, eq-eqb, or_left, or_right, and_left, and_right}
 use Rattle.kinds.specs.Domain.{Domain}
+use Rattle.rows.specs.Numbers.{Over}
 use Rattle.forms.specs.Labels.{Label, least, silent, join, under}
-use Rattle.forms.specs.Tables.{then_role}
-use Rattle.forms.specs.Finished.{Over, Dead, by_nothing, by_reading, by_numbers, by_filler, Shut, Hidden}
+use Rattle.rows.specs.Tables.{then_role}
+use Rattle.forms.specs.Finished.{Dead, by_nothing, by_reading, by_numbers, by_filler, Shut, Hidden}
 use Rattle.forms.specs.Alike.{Like, Alike, same, edge, hidden}
 use Rattle.forms.specs.Sheets.{Form, both_forms, below_role, under_form}
 

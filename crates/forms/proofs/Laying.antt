@@ -5,15 +5,15 @@ use Rattle.std.proofs.lemmas.Bool.{cases_lt, cases_eq}
 use Rattle.std.proofs.ByRecursion.{All-weaker}
 use Rattle.kinds.specs.Domain.{Domain}
 use Rattle.forms.specs.Labels.{Label}
-use Rattle.forms.specs.Tables.{then_role, Stands, root, below, Before, shorter}
-use Rattle.forms.specs.Finished.{Topmost, Open}
+use Rattle.rows.specs.Tables.{then_role, Topmost, Stands, root, below, Before, shorter}
+use Rattle.forms.specs.Finished.{Open}
 use Rattle.forms.specs.Laid.{Placed}
 use Rattle.forms.specs.Laying.{Next, Final, Laid}
 use Rattle.forms.specs.Few.{Ascends, Few}
-use Rattle.forms.specs.declared.row.Row.{Row}
-use Rattle.forms.proofs.Finding.{stands_once}
-use Rattle.forms.proofs.Listing.{path_at}
+use Rattle.rows.specs.declared.row.Row.{Row}
+use Rattle.rows.proofs.Rooted.{path_of}
 use Rattle.forms.proofs.Successors.{before_trans}
+use Rattle.rows.proofs.Standing.{stands_once}
 
 -- tables that agree on their first rows have them at the same paths
 module _ {R : Type 0} (A B : ℕ → Row R) (n : ℕ) (agree : (c : ℕ) → c < n → A c ≡ B c) (parents : (c : ℕ) → 0 < c → c < n → (A c).parent < c) where
@@ -78,7 +78,7 @@ module _ {R V : Type 0} (k : Domain R V) (f : List ℕ → Label V) (w : List �
     lined τ e after (suc m) c l =
         let rest = lined τ e after m (c + 1) (omega arith) in
         let here : c < n = omega arith in
-        let at = path_at w T n laid.parents laid.order laid.written (c + 1) c (omega arith) here in (
+        let at = path_of T n laid.parents c here in (
           at.0 ∷ rest.0,
           omega (arith, rest.1),
           (

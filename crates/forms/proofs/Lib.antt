@@ -5,14 +5,12 @@ pub mod Shutting
 pub mod Unwritten
 pub mod Meeting
 pub mod Transfer
-pub mod Groups
 pub mod Models
 pub mod Joining
 pub mod Finding
 pub mod SheetForms
 pub mod NodeForms
 pub mod RowBound
-pub mod Scanning
 pub mod Successors
 pub mod Laying
 pub mod Walking

@@ -3,18 +3,19 @@ use Rattle.std.proofs.Common.{◌≡◌, ℕ, zero, suc, ◌+◌, ◌<◌, ◌�
 use Rattle.std.proofs.lemmas.Bool.{cases_order}
 use Rattle.kinds.specs.Domain.{Domain}
 use Rattle.forms.specs.Labels.{Label}
-use Rattle.forms.specs.Tables.{then_role, Stands, Before, rows_of}
+use Rattle.rows.specs.Tables.{then_role, Stands, Before, rows_of}
 use Rattle.forms.specs.Finished.{Open}
 use Rattle.forms.specs.Laying.{Next, Final, Laid}
 use Rattle.forms.specs.Seen.{Holds, Seen}
 use Rattle.forms.specs.Sheets.{Form, find}
 use Rattle.forms.specs.Walks.{Proper, LaidOut, flags_of}
 use Rattle.forms.specs.declared.label.Label.{Label as FoundLabel}
-use Rattle.forms.specs.declared.row.Row.{Row}
-use Rattle.forms.proofs.Finding.{find_stands, stands_find, not_before}
+use Rattle.rows.specs.declared.row.Row.{Row}
+use Rattle.forms.proofs.Finding.{find_stands, stands_find}
 use Rattle.forms.proofs.Fronts.{Fronted}
 use Rattle.forms.proofs.Laying.{laid_first, laid_more, laid_room, laid_placed}
 use Rattle.forms.proofs.Successors.{before_trans, before_more, written_front}
+use Rattle.rows.proofs.Standing.{not_before}
 
 -- the row of a label, with its place
 abbrev pub row_with : {R : Type 0} → FoundLabel R → ℕ → ℕ → Row R

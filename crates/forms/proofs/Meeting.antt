@@ -1,54 +1,26 @@
 -- An element meets a finished form exactly when it satisfies the concept. Assumes nothing.
-use Rattle.std.proofs.Common.{◌≡◌, ℕ, zero, suc, ◌+◌, ◌<◌, ◌≤◌, true, ◌⊎◌, List, [], ◌∷◌, ◌++◌, length, Some, None, Option, sym, refl, ap, ◌∙◌, subst, inl, inr, ⊎_elim, arith, length-append}
+use Rattle.std.proofs.Common.{◌≡◌, ℕ, zero, suc, ◌+◌, ◌<◌, ◌≤◌, true, List, [], ◌∷◌, ◌++◌, length, Some, None, Option, sym, refl, ap, ◌∙◌, subst, inl, inr, ⊎_elim, arith, length-append}
 use Rattle.std.proofs.lemmas.Bool.{both_ways, and_parts, and_from, cases_Bool}
 use Rattle.kinds.specs.Domain.{Domain}
 use Rattle.masks.specs.Masks.{has}
 use Rattle.concepts.specs.Concepts.{Concept}
 use Rattle.concepts.specs.Interpretations.{Interpretation, how_many}
 use Rattle.concepts.proofs.Meanings.{count_some}
+use Rattle.rows.specs.Numbers.{Under}
 use Rattle.forms.specs.Labels.{Label, writes, label}
-use Rattle.forms.specs.Paths.{Under, Along, Has, Counts, Throughout}
-use Rattle.forms.specs.Tables.{then_role, Stands, root, below, Meets, meets}
+use Rattle.forms.specs.Paths.{Along, Has, Counts, Throughout}
+use Rattle.rows.specs.Tables.{then_role, Stands, root, below, Meets, meets}
 use Rattle.forms.specs.Finished.{by_nothing, Shut, Hidden, Open, Content, Finished}
-use Rattle.forms.specs.declared.row.Row.{Row}
+use Rattle.rows.specs.declared.row.Row.{Row}
 use Rattle.forms.proofs.Along.{along_split, along_then, along_last, along_inside}
 use Rattle.forms.proofs.Reading.{silent_has, silent_counts}
 use Rattle.forms.proofs.Shutting.{shut_none}
 use Rattle.forms.proofs.Unwritten.{unwritten, writes_front, root_upper}
-
--- the last role of a path, and what comes before it
-pub last_same : (π σ : List ℕ) (r s : ℕ) → then_role π r ≡ then_role σ s → (π ≡ σ) × (r ≡ s)
-last_same [] [] r s e = (refl, cc)
-last_same [] (t ∷ []) r s e = absurd (let z : ◌≡◌ {A = List ℕ} [] (s ∷ []) = cc in let q = ap length z in omega arith)
-last_same [] (t ∷ u ∷ σ) r s e = absurd (let z : ◌≡◌ {A = List ℕ} [] (u ∷ then_role σ s) = cc in let q = ap length z in omega arith)
-last_same (t ∷ []) [] r s e = absurd (let z : ◌≡◌ {A = List ℕ} (r ∷ []) [] = cc in let q = ap length z in omega arith)
-last_same (t ∷ u ∷ π) [] r s e = absurd (let z : ◌≡◌ {A = List ℕ} (u ∷ then_role π r) [] = cc in let q = ap length z in omega arith)
-last_same (t ∷ π) (u ∷ σ) r s e =
-    let tails : then_role π r ≡ then_role σ s = cc in
-    let rest = last_same π σ r s tails in
-    let heads : t ≡ u = cc in
-    (ap (λ x. x ∷ π) heads ∙ ap (λ ρ. u ∷ ρ) rest.0, rest.1)
-
--- a proper front of a path with one role more is a front of the path
-pub front_of : (π σ : List ℕ) (r s : ℕ) (ρ : List ℕ) → then_role π r ≡ σ ++ (s ∷ ρ) → (τ : List ℕ) × (π ≡ σ ++ τ)
-front_of π [] r s ρ e = (π, refl)
-front_of [] (t ∷ []) r s ρ e = absurd (let z : ◌≡◌ {A = List ℕ} [] (s ∷ ρ) = cc in let q = ap length z in omega arith)
-front_of [] (t ∷ u ∷ σ) r s ρ e = absurd (let z : ◌≡◌ {A = List ℕ} [] (u ∷ (σ ++ (s ∷ ρ))) = cc in let q = ap length z in omega arith)
-front_of (u ∷ π) (t ∷ σ) r s ρ e =
-    let tails : then_role π r ≡ σ ++ (s ∷ ρ) = cc in
-    let heads : u ≡ t = cc in
-    let rest = front_of π σ r s ρ tails in
-    (rest.0, ap (λ x. x ∷ π) heads ∙ ap (λ τ. t ∷ τ) rest.1)
+use Rattle.rows.proofs.Standing.{front_of, last_same, stands_by}
 
 under_zero : (n : ℕ) (u : Option ℕ) → n ≤ 0 → Under n u
 under_zero n None h = tt
 under_zero n (Some u) h = omega arith
-
--- row 0 stands at the empty path, and every other one at its parent's and then its role
-pub stands_by : {R : Type 0} (T : ℕ → Row R) (c : ℕ) (π : List ℕ) → Stands T c π
-    → ((c ≡ 0) × (π ≡ [])) ⊎ ((σ : List ℕ) × (0 < c) × Stands T (T c).parent σ × (π ≡ then_role σ (T c).role))
-stands_by T c π root = inl (refl, refl)
-stands_by T c π (below {π = σ} d l s) = inr (σ, l, s, refl)
 
 module _ {R V : Type 0} (k : Domain R V) (a : Concept R) (T : ℕ → Row R) (n : ℕ) (fin : Finished k a T n) (y : Interpretation k) where
   abbrev L : List ℕ → Label V

@@ -1,19 +1,20 @@
 -- A finished form has a model: for each row a group of as many elements as its lower number asks for. Assumes nothing.
-use Rattle.std.proofs.Common.{◌≡◌, ℕ, zero, suc, ◌+◌, ◌<◌, ◌≤◌, Bool, true, false, ◌⊎◌, List, [], ◌∷◌, Some, None, Option, sym, refl, ◌∙◌, subst, inl, inr, ⊎_elim, arith}
+use Rattle.std.proofs.Common.{◌≡◌, ℕ, zero, suc, ◌<◌, ◌≤◌, Bool, true, false, ◌⊎◌, List, [], ◌∷◌, Some, None, Option, sym, refl, ap, ◌∙◌, subst, inl, inr, ⊎_elim, arith}
 use Rattle.std.proofs.lemmas.Bool.{both_ways, and_cases, cases_Bool, cases_lt}
 use Rattle.kinds.specs.Domain.{Domain, Empty, Member}
-use Rattle.masks.specs.Masks.{has}
-use Rattle.concepts.specs.Interpretations.{Interpretation, how_many}
+use Rattle.concepts.specs.Interpretations.{Interpretation}
+use Rattle.rows.specs.Numbers.{Under, Over}
 use Rattle.forms.specs.Labels.{Label}
-use Rattle.forms.specs.Paths.{Under}
-use Rattle.forms.specs.Tables.{then_role, Stands, root, below, Meets, meets}
-use Rattle.forms.specs.Finished.{Over, Dead, by_reading, by_numbers, by_filler, Shut, Content, FinishedBy}
-use Rattle.forms.specs.Groups.{total, owner, owner_below, world_of}
+use Rattle.rows.specs.Tables.{then_role, Stands, below, Meets}
+use Rattle.forms.specs.Finished.{Dead, by_reading, by_numbers, by_filler, Shut, Content, FinishedBy}
+use Rattle.rows.specs.Groups.{total_some, world_of}
 use Rattle.forms.specs.Built.{Readings}
-use Rattle.forms.proofs.Finding.{before_apart}
-use Rattle.forms.specs.declared.row.Row.{Row}
-use Rattle.forms.specs.declared.group.Group.{Group}
-use Rattle.forms.proofs.Groups.{owner_first, total_some, hangs_parts, Alone, fillers}
+use Rattle.rows.specs.declared.row.Row.{Row}
+use Rattle.rows.specs.declared.group.Group.{Group}
+use Rattle.rows.proofs.Rooted.{path_of, parent_path}
+use Rattle.rows.proofs.Groups.{owner_first}
+use Rattle.rows.proofs.Fitting.{some_same, Suits, Fitting, kin, fitting_meets}
+use Rattle.rows.proofs.Shaping.{single}
 
 -- a lower number is within the upper one or above it
 cases_over : (lo : ℕ) (up : Option ℕ) → Under lo up ⊎ Over lo up
@@ -23,57 +24,7 @@ cases_over lo (Some u) = ⊎_elim inr inl (cases_lt u lo)
 under_same : (a b : ℕ) (u v : Option ℕ) → a ≡ b → u ≡ v → Under b v → Under a u
 under_same a b u v p q h = rw (p, q) h
 
--- each row hangs from an earlier one
-abbrev pub Earlier : {R : Type 0} → (ℕ → Row R) → ℕ → Type 0
-Earlier T n = (c : ℕ) → 0 < c → c < n → (T c).parent < c
-
--- no two rows hang from one row by one role
-abbrev pub Single : {R : Type 0} → (ℕ → Row R) → ℕ → Type 0
-Single T n = (b c : ℕ) → 0 < b → b < n → 0 < c → c < n → (T b).parent ≡ (T c).parent → (T b).role ≡ (T c).role → b ≡ c
-
 module _ {R V : Type 0} (k : Domain R V) where
-  -- group c has what row c asks for, and hangs where row c does
-  pub record Fits (T : ℕ → Row R) (G : ℕ → Group V) (n : ℕ) : Type 0 where
-    pub parent : (c : ℕ) → 0 < c → c < n → (G c).parent ≡ (T c).parent
-    pub role : (c : ℕ) → 0 < c → c < n → (G c).role ≡ (T c).role
-    pub enough : (c : ℕ) → 0 < c → c < n → (T c).lower ≤ (G c).headcount
-    pub few : (c : ℕ) → 0 < c → c < n → Under (G c).headcount (T c).upper
-    pub atoms : (c : ℕ) → c < n → (m : ℕ) → has (T c).atoms m ≡ true → has (G c).atoms m ≡ true
-    pub reading : (c : ℕ) → c < n → k.admits (T c).restriction (G c).reading ≡ true
-
-  -- then each element of group c meets row c
-  module _ (T : ℕ → Row R) (G : ℕ → Group V) (n : ℕ) (earlier : Earlier T n) (single : Single T n) (fits : Fits T G n)
-      (some : 0 < total G n) (reads : (c : ℕ) → c < n → k.reads (G c).reading ≡ true) where
-    abbrev y : Interpretation k
-    y = world_of k G n some reads
-
-    -- a group that hangs where a row does is that of the row
-    same_group : (h b : ℕ) → 0 < h → h < n → 0 < b → b < n → (G h).parent ≡ (T b).parent → (G h).role ≡ (T b).role → h ≡ b
-    same_group h b z u some lb p r = single h b z u some lb (sym (fits.parent h z u) ∙ p) (sym (fits.role h z u) ∙ r)
-
-    as_many : (i b : ℕ) → 0 < b → b < n → owner G n i ≡ (T b).parent → how_many (y.filler i (T b).role) y.size ≡ (G b).headcount
-    as_many i b z l e =
-        let lone : Alone G n (owner G n i) (T b).role b = λ h x u p r. same_group h b x u z l (p ∙ e) r in
-        fillers k G n some reads i (T b).role b z l (fits.parent b z l ∙ sym e) (fits.role b z l) lone
-
-    its_filler : (i b j : ℕ) → 0 < b → b < n → owner G n i ≡ (T b).parent → j < y.size → y.filler i (T b).role j ≡ true → owner G n j ≡ b
-    its_filler i b j z l e lj h =
-        let q = hangs_parts G (owner G n i) (T b).role (owner G n j) h in
-        same_group (owner G n j) b q.0 (owner_below G n j lj) z l (q.1 ∙ e) q.2
-
-    meets_by : (m c i : ℕ) → n ≤ c + m → c < n → owner G n i ≡ c → Meets y T n c i
-    meets_by zero c i fuel l e = absurd (omega arith)
-    meets_by (suc m) c i fuel l e = meets
-        (λ x h. subst (λ d. has (G d).atoms x ≡ true) (sym e) (fits.atoms c l x h))
-        (subst (λ d. k.admits (T c).restriction (G d).reading ≡ true) (sym e) (fits.reading c l))
-        (λ b z lb par.
-        let q = as_many i b z lb (e ∙ sym par) in
-        (omega (arith, fits.enough b z lb), under_same _ _ _ _ q refl (fits.few b z lb)))
-        (λ b z lb par j lj h. meets_by m b j (omega (arith, earlier b z lb)) lb (its_filler i b j z lb (e ∙ sym par) lj h))
-
-    pub fits_meets : (c i : ℕ) → c < n → owner G n i ≡ c → Meets y T n c i
-    fits_meets c i l e = meets_by n c i (omega arith) l e
-
   -- a member of what is not empty is admitted
   pub member_admitted : (r : R) (v : V) → Member k r v → (Empty k r → ⊥) → k.admits r v ≡ true
   member_admitted r v m some = ⊎_elim (λ e. e) (λ e. absurd (some (none e))) (cases_Bool (k.admits r v))
@@ -82,35 +33,6 @@ module _ {R V : Type 0} (k : Domain R V) where
       none e u = ⊎_elim (λ h. absurd (both_ways (k.admits r v) e (m u h))) (λ h. h) (cases_Bool (k.admits r u))
 
 module _ {R V : Type 0} (k : Domain R V) (f : List ℕ → Label V) (w : List ℕ → Bool) (T : ℕ → Row R) (n : ℕ) (fin : FinishedBy k f w T n) where
-  -- each row stands at a path
-  path_by : (m c : ℕ) → c < m → c < n → (π : List ℕ) × Stands T c π
-  path_by zero c l u = absurd (omega arith)
-  path_by (suc m) zero l u = ([], root)
-  path_by (suc m) (suc c) l u =
-      let q = fin.parents (suc c) (omega arith) u in
-      let up = path_by m (T (suc c)).parent (omega arith) (omega arith) in
-      (then_role up.0 (T (suc c)).role, below (suc c) (omega arith) up.1)
-
-  pub path : (c : ℕ) → c < n → (π : List ℕ) × Stands T c π
-  path c l = path_by (suc c) c (omega arith) l
-
-  parent_path : (c : ℕ) → 0 < c → c < n → (π : List ℕ) × Stands T (T c).parent π
-  parent_path c z l = path (T c).parent (omega (arith, fin.parents c z l))
-
-  -- two rows that hang from one row by one role would stand at one path
-  one_first : (b c : ℕ) → 0 < b → b < c → c < n → (T b).parent ≡ (T c).parent → (T b).role ≡ (T c).role → ⊥
-  one_first b c z l u p r =
-      let s = parent_path c (omega arith) u in
-      let first = below b z (subst (λ x. Stands T x s.0) (sym p) s.1) in
-      let moved = subst (λ x. Stands T b (then_role s.0 x)) r first in
-      before_apart _ _ (fin.order b c _ _ l u moved (below c (omega arith) s.1)) refl
-
-  pub single : Single T n
-  single b c x l y u p r = ⊎_elim
-      (λ h. absurd (one_first b c x h u p r))
-      (λ h. ⊎_elim (λ g. absurd (one_first c b y g l (sym p) (sym r))) (λ g. omega arith) (cases_lt c b))
-      (cases_lt b c)
-
   -- something can stand where a row hangs from
   parent_lives : (c : ℕ) (π : List ℕ) → 0 < c → c < n → Stands T (T c).parent π → Dead k f π → ⊥
   parent_lives c [] z l s dead = fin.live dead
@@ -128,7 +50,7 @@ module _ {R V : Type 0} (k : Domain R V) (f : List ℕ → Label V) (w : List �
   -- each row's lower number is within its upper one
   pub within_numbers : (c : ℕ) → 0 < c → c < n → Under (T c).lower (T c).upper
   within_numbers c z l =
-      let s = parent_path c z l in
+      let s = parent_path T n fin.parents c z l in
       go s.0 (parent_lives c s.0 z l s.1) (fin.content c (then_role s.0 (T c).role) l (below c z s.1))
     where
       go : (π : List ℕ) → (Dead k f π → ⊥) → Content k f w (T c) (then_role π (T c).role) → Under (T c).lower (T c).upper
@@ -139,7 +61,7 @@ module _ {R V : Type 0} (k : Domain R V) (f : List ℕ → Label V) (w : List �
 
   -- each row admits a reading
   pub row_admits : (c : ℕ) → c < n → Empty k (T c).restriction → ⊥
-  row_admits c l none = let s = path c l in go s.0 (fin.content c s.0 l s.1)
+  row_admits c l none = let s = path_of T n fin.parents c l in go s.0 (fin.content c s.0 l s.1)
     where
       go : (π : List ℕ) → Content k f w (T c) π → ⊥
       go π (inl o) = o.0 (inr (by_reading (λ v e.
@@ -171,21 +93,20 @@ module _ {R V : Type 0} (k : Domain R V) (f : List ℕ → Label V) (w : List �
     abbrev G : ℕ → Group V
     G c = record { parent = (T c).parent; role = (T c).role; headcount = heads c; atoms = (T c).atoms; reading = (reading_of c).0 }
 
-    made_fits : Fits k T G n
+    -- row c has group c
+    made_fits : Fitting k T n G n Some
     made_fits = record {
-      parent = λ c z l. refl;
-      role = λ c z l. refl;
-      enough = λ c z l. omega (arith, heads_lower c z);
-      few = λ c z l. under_same _ _ _ _ (heads_lower c z) refl (within_numbers c z l);
-      atoms = λ c l m h. h;
-      reading = λ c l. (reading_of c).1 l;
+      there = λ c g l e. subst (λ x. Suits k (T c) (G x)) (some_same c g e) (record { atoms = λ x h. h; reading = (reading_of c).1 l });
+      kin = λ b h z l e. kin z l (some_same (T b).parent h e) refl;
+      numbers = λ b h z l e. let q = heads_lower b z in (omega arith, under_same _ _ _ _ q refl (within_numbers b z l));
     }
 
     pub model : (y : Interpretation k) × (0 < y.size) × Meets y T n 0 0
     model =
         let some = total_some G n fin.some heads_first in
         let reads : (c : ℕ) → c < n → k.reads (G c).reading ≡ true = λ c l. k.inside (T c).restriction (G c).reading ((reading_of c).1 l) in
-        (world_of k G n some reads, some, fits_meets k T G n fin.parents single made_fits some reads 0 0 fin.some (owner_first G n fin.some heads_first))
+        let lone = single T n fin.parents fin.order in
+        (world_of k G n some reads, some, fitting_meets k T n G n some reads lone Some fin.parents made_fits 0 0 fin.some (ap Some (sym (owner_first G n fin.some heads_first))))
 
   -- it is not so that a row has no reading; nor that some row of the first m has none
   row_reads : (c : ℕ) → c < n → (((v : V) × (k.admits (T c).restriction v ≡ true)) → ⊥) → ⊥

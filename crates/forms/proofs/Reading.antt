@@ -4,8 +4,9 @@ use Rattle.std.proofs.lemmas.Bool.{and_parts, and_from, or_cases, or_parts, or_f
 use Rattle.kinds.specs.Domain.{Domain}
 use Rattle.concepts.specs.Concepts.{Concept, thing, nothing, prim, within, and, all, at_least, at_most}
 use Rattle.concepts.specs.Interpretations.{Interpretation, Satisfies}
+use Rattle.rows.specs.Numbers.{Under}
 use Rattle.forms.specs.Labels.{Label, least, silent, join, here, under, label}
-use Rattle.forms.specs.Paths.{Under, Along, Has, Counts, Throughout}
+use Rattle.forms.specs.Paths.{Along, Has, Counts, Throughout}
 
 under_least : (n : ℕ) (a b : Option ℕ) → Under n a → Under n b → Under n (least a b)
 under_least n None b p q = q

@@ -16,12 +16,13 @@ use Rattle.concepts.specs.declared.node.Node.{Node}
 use Rattle.concepts.proofs.Values.{value_at, values_below}
 use Rattle.concepts.proofs.Verdicts.{element}
 use Rattle.forms.specs.Labels.{silent, writes}
-use Rattle.forms.specs.Tables.{Stands, Before, shorter, lower_role, later}
+use Rattle.rows.specs.Tables.{Stands, Before, shorter, lower_role, later}
 use Rattle.forms.specs.Sheets.{Form, find, sheet_form, plain_form, below_role, form_of, node_form}
 use Rattle.forms.specs.Few.{Pairs, Ascends, Few}
-use Rattle.forms.specs.declared.row.Row.{Row}
-use Rattle.forms.proofs.Finding.{before_apart, find_stands, stands_once}
+use Rattle.rows.specs.declared.row.Row.{Row}
+use Rattle.forms.proofs.Finding.{find_stands}
 use Rattle.forms.proofs.NodeForms.{left_lower, right_lower}
+use Rattle.rows.proofs.Standing.{before_apart, stands_once}
 
 -- no number twice
 abbrev pub Distinct : List ℕ → Type 0

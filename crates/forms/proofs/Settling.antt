@@ -4,15 +4,15 @@ use Rattle.std.proofs.lemmas.List.{get_or_read, get_or-set_same, get_or-set_othe
 use Rattle.std.proofs.lemmas.Bool.{both_ways, and_cases, and_left, and_right, cases_Bool, cases_lt, cases_eq}
 use Rattle.kinds.specs.Domain.{Domain, Empty}
 use Rattle.masks.specs.Masks.{has}
+use Rattle.rows.specs.Numbers.{Over}
 use Rattle.forms.specs.Labels.{Label}
-use Rattle.forms.specs.Tables.{then_role, Stands, root, below}
-use Rattle.forms.specs.Finished.{Over, Dead, by_nothing, by_reading, by_numbers, by_filler, Shut, Open}
+use Rattle.rows.specs.Tables.{then_role, Stands, root, below}
+use Rattle.forms.specs.Finished.{Dead, by_nothing, by_reading, by_numbers, by_filler, Shut, Open}
 use Rattle.forms.specs.Laid.{Placed, Halted, Settled}
 use Rattle.forms.specs.Settling.{Kept, Bare, Closes, Ready, Comes, Settles}
-use Rattle.forms.specs.declared.row.Row.{Row}
-use Rattle.forms.proofs.Meeting.{last_same, stands_by}
-use Rattle.forms.proofs.Models.{Earlier}
-use Rattle.forms.proofs.Finding.{before_apart}
+use Rattle.rows.specs.declared.row.Row.{Row}
+use Rattle.rows.proofs.Standing.{last_same, stands_by, before_apart}
+use Rattle.rows.proofs.Rooted.{Earlier}
 
 over_some : (lo : ℕ) (up : Option ℕ) → Over lo up → 0 < lo
 over_some lo None o = absurd o

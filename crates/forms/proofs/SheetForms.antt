@@ -4,14 +4,15 @@ use Rattle.std.proofs.lemmas.Bool.{cases_Bool, cases_order}
 use Rattle.kinds.specs.Domain.{Domain}
 use Rattle.concepts.specs.Concepts.{Concept}
 use Rattle.forms.specs.Labels.{Label, silent, writes, label}
-use Rattle.forms.specs.Tables.{Stands}
+use Rattle.rows.specs.Tables.{Stands}
 use Rattle.forms.specs.Finished.{by_nothing, Shut, Hidden, Open, Closed, Finished}
 use Rattle.forms.specs.Alike.{Like, Alike, same, edge, hidden}
 use Rattle.forms.specs.Sheets.{Form, find, label_of, row_label, sheet_form, concept_form}
-use Rattle.forms.specs.declared.row.Row.{Row}
+use Rattle.rows.specs.declared.row.Row.{Row}
 use Rattle.forms.proofs.Unwritten.{unwritten, writes_front, root_upper}
-use Rattle.forms.proofs.Finding.{not_before, find_stands, stands_find}
+use Rattle.forms.proofs.Finding.{find_stands, stands_find}
 use Rattle.forms.proofs.Joining.{AlikeForms, like_refl}
+use Rattle.rows.proofs.Standing.{not_before}
 
 module _ {R V : Type 0} (k : Domain R V) (a : Concept R) (T : ℕ → Row R) (n : ℕ) (fin : Finished k a T n) where
   abbrev L : List ℕ → Label V

@@ -4,10 +4,11 @@ use Rattle.std.proofs.lemmas.Bool.{both_ways}
 use Rattle.kinds.specs.Domain.{Domain}
 use Rattle.concepts.specs.Interpretations.{Interpretation, how_many}
 use Rattle.concepts.proofs.Meanings.{count_none, count_some}
+use Rattle.rows.specs.Numbers.{Under, Over}
 use Rattle.forms.specs.Labels.{Label}
-use Rattle.forms.specs.Paths.{Under, Along, Throughout}
-use Rattle.forms.specs.Tables.{then_role}
-use Rattle.forms.specs.Finished.{Over, Dead, by_nothing, by_reading, by_numbers, by_filler, Shut}
+use Rattle.forms.specs.Paths.{Along, Throughout}
+use Rattle.rows.specs.Tables.{then_role}
+use Rattle.forms.specs.Finished.{Dead, by_nothing, by_reading, by_numbers, by_filler, Shut}
 use Rattle.forms.proofs.Along.{along_then, along_last, along_inside}
 use Rattle.forms.proofs.Counting.{count_found}
 

@@ -13,11 +13,11 @@ use Rattle.concepts.specs.WellFormed.{At, Faultless}
 use Rattle.concepts.specs.declared.node.Node.{Node}
 use Rattle.concepts.proofs.Values.{value_at, values_below}
 use Rattle.forms.specs.Labels.{Label, silent, bottom, an_atom, a_range, a_lower, an_upper}
-use Rattle.forms.specs.Tables.{then_role}
+use Rattle.rows.specs.Tables.{then_role}
 use Rattle.forms.specs.Sheets.{Form, plain_form, both_forms, under_form, sheet_form, row_label, label_of, form_of, node_form, child, onward, find}
 use Rattle.forms.specs.Seen.{Holds, Seen, begins, entries}
 use Rattle.forms.specs.declared.label.Label.{Label as FoundLabel}
-use Rattle.forms.specs.declared.row.Row.{Row}
+use Rattle.rows.specs.declared.row.Row.{Row}
 use Rattle.forms.proofs.Finding.{find_append}
 
 and_no : (t : Bool) → false ≡ (t && false)

@@ -5,7 +5,7 @@ use Rattle.std.proofs.lemmas.Bool.{cases_lt}
 use Rattle.concepts.specs.Weights.{rows_at}
 use Rattle.forms.specs.Blocks.{block_of}
 use Rattle.forms.specs.Seen.{Supplied, Stocked}
-use Rattle.forms.specs.declared.row.Row.{Row}
+use Rattle.rows.specs.declared.row.Row.{Row}
 
 supplied_by : (o : Option ℕ) (size : ℕ) → ((m : ℕ) → o ≡ Some m → (0 < m) × (m ≤ size)) → Supplied o size
 supplied_by None size h = tt

@@ -4,14 +4,14 @@ use Rattle.std.proofs.lemmas.Bool.{both_ways, cases_Bool, cases_lt, cases_order,
 use Rattle.kinds.specs.Domain.{Domain}
 use Rattle.masks.specs.Masks.{has}
 use Rattle.forms.specs.Labels.{Label}
-use Rattle.forms.specs.Tables.{then_role, Stands, root, below}
-use Rattle.forms.specs.Finished.{Topmost, Dead, Shut, Hidden, Open, Closed, Content, FinishedBy}
+use Rattle.rows.specs.Tables.{then_role, Topmost, Stands, root, below}
+use Rattle.forms.specs.Finished.{Dead, Shut, Hidden, Open, Closed, Content, FinishedBy}
 use Rattle.forms.specs.Laid.{Closing, Placed, Settled}
 use Rattle.forms.specs.Stripping.{is_zero, Hung}
-use Rattle.forms.specs.declared.row.Row.{Row}
-use Rattle.forms.proofs.Meeting.{stands_by, front_of}
-use Rattle.forms.proofs.Models.{Earlier}
+use Rattle.rows.specs.declared.row.Row.{Row}
+use Rattle.rows.proofs.Rooted.{Earlier}
 use Rattle.forms.proofs.Transfer.{Covered}
+use Rattle.rows.proofs.Standing.{stands_by, front_of}
 
 zero_is : (u : Option ℕ) → is_zero u ≡ true → u ≡ Some 0
 zero_is None h = absurd (both_ways false refl h)

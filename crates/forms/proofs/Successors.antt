@@ -1,7 +1,7 @@
 -- The first written path after another. Assumes nothing.
 use Rattle.std.proofs.Common.{◌≡◌, ℕ, ◌+◌, ◌<◌, ◌≤◌, Bool, true, ◌⊎◌, List, [], ◌∷◌, ◌++◌, length, sym, refl, ap, ◌∙◌, subst, inl, inr, ⊎_elim, append_assoc, append-nil, arith, length-append}
 use Rattle.std.proofs.lemmas.Bool.{cases_lt, cases_eq}
-use Rattle.forms.specs.Tables.{then_role, Before, shorter, lower_role, later}
+use Rattle.rows.specs.Tables.{then_role, Before, shorter, lower_role, later}
 use Rattle.forms.specs.Laying.{Next, Final}
 use Rattle.forms.specs.Walks.{AfterHead}
 

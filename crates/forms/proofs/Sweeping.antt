@@ -5,8 +5,8 @@ use Rattle.std.proofs.lemmas.Bool.{both_ways, cases_lt, or_left, not_from_false,
 use Rattle.kinds.specs.Domain.{Domain}
 use Rattle.forms.specs.Stripping.{is_zero, Hung, Strips}
 use Rattle.forms.specs.Finished.{FinishedBy}
-use Rattle.forms.specs.declared.row.Row.{Row}
-use Rattle.forms.proofs.Models.{Earlier}
+use Rattle.rows.specs.declared.row.Row.{Row}
+use Rattle.rows.proofs.Rooted.{Earlier}
 use Rattle.forms.proofs.Stripping.{new, new_zero, new_more, new_same, new_strict, stop, keep, stop_first, keep_first, keep_by, stop_by, keep_up, Carried, finished}
 
 module _ {R V : Type 0} (k : Domain R V) (xs : List (Row R)) (n : ℕ) where

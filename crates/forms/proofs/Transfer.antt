@@ -1,12 +1,13 @@
 -- A finished form of one form is that of any other that differs only where nothing is allowed. Assumes nothing.
 use Rattle.std.proofs.Common.{◌≡◌, ℕ, ◌<◌, Bool, true, false, ◌&&◌, ◌⊎◌, List, [], ◌∷◌, ◌++◌, length, Some, None, Option, sym, refl, ap, ◌∙◌, subst, inl, inr, ⊎_elim, append_assoc, append-nil, arith}
 use Rattle.kinds.specs.Domain.{Domain}
+use Rattle.rows.specs.Numbers.{Over}
 use Rattle.forms.specs.Labels.{Label}
-use Rattle.forms.specs.Tables.{then_role, Stands}
-use Rattle.forms.specs.Finished.{Over, Dead, by_nothing, by_reading, by_numbers, by_filler, Shut, Hidden, Open, Closed, Content, FinishedBy}
+use Rattle.rows.specs.Tables.{then_role, Stands}
+use Rattle.forms.specs.Finished.{Dead, by_nothing, by_reading, by_numbers, by_filler, Shut, Hidden, Open, Closed, Content, FinishedBy}
 use Rattle.forms.specs.Alike.{Like, Alike, same, edge, hidden}
-use Rattle.forms.specs.declared.row.Row.{Row}
-use Rattle.forms.proofs.Meeting.{front_of}
+use Rattle.rows.specs.declared.row.Row.{Row}
+use Rattle.rows.proofs.Standing.{front_of}
 
 module _ {R V : Type 0} (k : Domain R V) where
   like_sym : (l m : Label V) → Like k l m → Like k m l

@@ -3,7 +3,7 @@ use Rattle.std.proofs.Common.{◌≡◌, ℕ, ◌+◌, ◌<◌, ◌≤◌, min, 
 use Rattle.std.proofs.lemmas.List.{length-take-le, take-append-drop}
 use Rattle.std.proofs.lemmas.Bool.{both_ways, and_parts, and_from, cases_lt, lt-ltb, ltb-true}
 use Rattle.masks.specs.Masks.{has, digit}
-use Rattle.forms.specs.Tables.{then_role}
+use Rattle.rows.specs.Tables.{then_role}
 use Rattle.forms.specs.Laying.{Next}
 use Rattle.forms.specs.Walks.{Lowest, Starts, Narrow, Turn}
 use Rattle.forms.proofs.Successors.{Early, early_past, next_found}

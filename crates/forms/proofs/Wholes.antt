@@ -13,7 +13,7 @@ use Rattle.concepts.specs.Checks.{bad_field, bad_role, bad_atom, bad_count}
 use Rattle.concepts.specs.Tables.{is_nothing, is_prim, is_within, is_and, is_all, is_at_least, is_at_most, is_entry}
 use Rattle.concepts.specs.WellFormed.{WellFormed}
 use Rattle.forms.specs.Labels.{Label, label, silent, least, here, under}
-use Rattle.forms.specs.Tables.{then_role, root, rows_of}
+use Rattle.rows.specs.Tables.{then_role, root, rows_of}
 use Rattle.forms.specs.Finished.{Shut}
 use Rattle.forms.specs.Laid.{Closing}
 use Rattle.forms.specs.Sheets.{Form, find, label_of, sheet_form, plain_form, both_forms, below_role, under_form, form_of}
@@ -21,10 +21,10 @@ use Rattle.forms.specs.Seen.{entries}
 use Rattle.forms.specs.Keeping.{Sheet, Keeps}
 use Rattle.forms.specs.Walks.{Narrow, whole_form}
 use Rattle.forms.specs.Blocks.{block_of}
-use Rattle.forms.specs.declared.row.Row.{Row}
+use Rattle.rows.specs.declared.row.Row.{Row}
 use Rattle.forms.proofs.Fronts.{Fronted, fronted_whole, fronted_sheet, fronted_plain, fronted_at, fronted_step}
 use Rattle.forms.proofs.Finding.{find_stands}
-use Rattle.forms.proofs.Meeting.{last_same, stands_by}
+use Rattle.rows.proofs.Standing.{last_same, stands_by}
 use Rattle.forms.proofs.Unwritten.{root_upper}
 
 -- numbers are written at written paths alone, none at the empty path, and roles are below 16

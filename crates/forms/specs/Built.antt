@@ -8,10 +8,11 @@ use Rattle.concepts.specs.Weights.{weight}
 use Rattle.concepts.specs.declared.node.Node.{Node}
 use Rattle.forms.specs.Keeping.{Sheet, Keeps}
 use Rattle.forms.specs.Seen.{Stocked}
-use Rattle.forms.specs.Tables.{rows_of, Meets}
+use Rattle.rows.specs.Shapes.{Coherent}
+use Rattle.rows.specs.Tables.{rows_of, Meets}
 use Rattle.forms.specs.declared.built.Built.{Built}
 use Rattle.forms.specs.declared.built.Built.TheVariants.{Rows, Contradictory, Unfit}
-use Rattle.forms.specs.declared.row.Row.{Row}
+use Rattle.rows.specs.declared.row.Row.{Row}
 
 module _ {R V : Type 0} (k : Domain R V) where
   -- a reading that each row admits
@@ -22,6 +23,8 @@ module _ {R V : Type 0} (k : Domain R V) where
   pub record Formed (a : Concept R) (T : ℕ → Row R) (n : ℕ) : Type 0 where
     -- they are its finished form
     pub sheet : Sheet k a T n
+    -- of which each admits a reading
+    pub coherent : Coherent k T n
     -- an element meets them exactly when it satisfies the concept
     pub met : (y : Interpretation k) (i : ℕ) → i < y.size → Satisfies k y a i → Meets y T n 0 i
     pub satisfied : (y : Interpretation k) (i : ℕ) → i < y.size → Meets y T n 0 i → Satisfies k y a i

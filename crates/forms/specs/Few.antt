@@ -1,7 +1,7 @@
 -- How many paths are written. Assumes nothing.
 use Rattle.std.specs.Prelude.{◌≡◌, ℕ, ◌≤◌, Bool, true, List, [], ◌∷◌, length}
 use Rattle.std.specs.List.{AllByRecursion}
-use Rattle.forms.specs.Tables.{Before}
+use Rattle.rows.specs.Tables.{Before}
 
 -- each element stands in Q to all later ones
 abbrev pub Pairs : {X : Type 0} → (X → X → Type 0) → List X → Type 0

@@ -1,20 +1,12 @@
 -- The finished form of a concept, by role paths: which paths have a row, in which order, and what stands in it. Assumes nothing.
-use Rattle.std.specs.Prelude.{◌≡◌, ℕ, ◌<◌, Bool, true, false, ◌&&◌, ◌⊎◌, List, [], ◌∷◌, ◌++◌, Some, None, Option}
+use Rattle.std.specs.Prelude.{◌≡◌, ℕ, ◌<◌, Bool, true, false, ◌&&◌, ◌⊎◌, List, [], ◌∷◌, ◌++◌, Some}
 use Rattle.kinds.specs.Domain.{Domain, Whole}
 use Rattle.masks.specs.Masks.{has, None as NoMember}
 use Rattle.concepts.specs.Concepts.{Concept}
 use Rattle.forms.specs.Labels.{Label, writes, label}
-use Rattle.forms.specs.Tables.{then_role, Stands, Before}
-use Rattle.forms.specs.declared.row.Row.{Row}
-
--- the lower number is above the upper one
-abbrev pub Over : ℕ → Option ℕ → Type 0
-Over lo None = ⊥
-Over lo (Some u) = u < lo
-
--- a row that hangs from nothing: its parent and its role are 0
-abbrev pub Topmost : {R : Type 0} → Row R → Type 0
-Topmost row = (row.parent ≡ 0) × (row.role ≡ 0)
+use Rattle.rows.specs.Numbers.{Over}
+use Rattle.rows.specs.Tables.{then_role, Topmost, Stands, Before}
+use Rattle.rows.specs.declared.row.Row.{Row}
 
 module _ {R V : Type 0} (k : Domain R V) where
   -- Over what is written at each path.

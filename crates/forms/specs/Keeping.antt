@@ -5,8 +5,8 @@ use Rattle.concepts.specs.Concepts.{Concept}
 use Rattle.concepts.specs.Weights.{rows_at}
 use Rattle.forms.specs.Blocks.{block_of}
 use Rattle.forms.specs.Finished.{Finished}
-use Rattle.forms.specs.Tables.{rows_of}
-use Rattle.forms.specs.declared.row.Row.{Row}
+use Rattle.rows.specs.Tables.{rows_of}
+use Rattle.rows.specs.declared.row.Row.{Row}
 
 module _ {R V : Type 0} (k : Domain R V) where
   -- m rows are the finished form of a concept, with roles below 16

@@ -2,9 +2,9 @@
 use Rattle.std.specs.Prelude.{◌≡◌, ℕ, ◌<◌, Bool, true, false, ◌⊎◌, List, [], Some, None}
 use Rattle.kinds.specs.Domain.{Domain}
 use Rattle.forms.specs.Labels.{Label}
-use Rattle.forms.specs.Tables.{then_role, Stands, Before}
-use Rattle.forms.specs.Finished.{Topmost, Shut, Open}
-use Rattle.forms.specs.declared.row.Row.{Row}
+use Rattle.rows.specs.Tables.{then_role, Topmost, Stands, Before}
+use Rattle.forms.specs.Finished.{Shut, Open}
+use Rattle.rows.specs.declared.row.Row.{Row}
 
 module _ {R V : Type 0} (k : Domain R V) (f : List ℕ → Label V) (w : List ℕ → Bool) where
   -- numbers are written at written paths alone, and what leads to a written path is written

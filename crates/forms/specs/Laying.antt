@@ -2,9 +2,9 @@
 use Rattle.std.specs.Prelude.{◌≡◌, ℕ, ◌+◌, ◌<◌, Bool, true, ◌⊎◌, List}
 use Rattle.kinds.specs.Domain.{Domain}
 use Rattle.forms.specs.Labels.{Label}
-use Rattle.forms.specs.Tables.{Stands, Before}
-use Rattle.forms.specs.Finished.{Topmost, Open}
-use Rattle.forms.specs.declared.row.Row.{Row}
+use Rattle.rows.specs.Tables.{Topmost, Stands, Before}
+use Rattle.forms.specs.Finished.{Open}
+use Rattle.rows.specs.declared.row.Row.{Row}
 
 -- Over which paths are written.
 module _ (w : List ℕ → Bool) where

@@ -1,6 +1,5 @@
 pub mod Labels
 pub mod Paths
-pub mod Tables
 pub mod Finished
 pub mod Alike
 pub mod Laid
@@ -10,7 +9,6 @@ pub mod Laying
 pub mod Sheets
 pub mod Seen
 pub mod Blocks
-pub mod Groups
 pub mod Few
 pub mod Walks
 pub mod Keeping

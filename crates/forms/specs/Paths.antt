@@ -1,13 +1,9 @@
 -- Role paths in an interpretation, and what it is for an element to have all that is written along them. Assumes nothing.
-use Rattle.std.specs.Prelude.{◌≡◌, ℕ, ◌<◌, ◌≤◌, true, false, List, [], ◌∷◌, ◌++◌, Some, None, Option}
+use Rattle.std.specs.Prelude.{◌≡◌, ℕ, ◌<◌, ◌≤◌, true, false, List, [], ◌∷◌, ◌++◌}
 use Rattle.kinds.specs.Domain.{Domain}
 use Rattle.concepts.specs.Interpretations.{Interpretation, how_many}
 use Rattle.forms.specs.Labels.{Label}
-
--- n is at most the upper number
-abbrev pub Under : ℕ → Option ℕ → Type 0
-Under n None = Unit {0}
-Under n (Some u) = n ≤ u
+use Rattle.rows.specs.Numbers.{Under}
 
 module _ {R V : Type 0} {k : Domain R V} (y : Interpretation k) where
   -- j is reached from i along the roles of a path

@@ -5,11 +5,11 @@ use Rattle.kinds.specs.Domain.{Domain}
 use Rattle.masks.specs.Masks.{has}
 use Rattle.concepts.specs.Weights.{rows_at}
 use Rattle.forms.specs.Labels.{Label}
-use Rattle.forms.specs.Tables.{then_role, rows_of}
+use Rattle.rows.specs.Tables.{then_role, rows_of}
 use Rattle.forms.specs.Sheets.{Form, sheet_form}
 use Rattle.forms.specs.Blocks.{block_of}
 use Rattle.forms.specs.declared.label.Label.{Label as FoundLabel}
-use Rattle.forms.specs.declared.row.Row.{Row}
+use Rattle.rows.specs.declared.row.Row.{Row}
 
 -- the path begins with the role s
 abbrev pub begins : List ℕ → ℕ → Bool

@@ -4,7 +4,7 @@ use Rattle.kinds.specs.Domain.{Domain, Empty}
 use Rattle.forms.specs.Labels.{Label}
 use Rattle.forms.specs.Finished.{Dead}
 use Rattle.forms.specs.Laid.{Closing, Placed, Filled, Flagged, Settled}
-use Rattle.forms.specs.declared.row.Row.{Row}
+use Rattle.rows.specs.declared.row.Row.{Row}
 
 -- a row as it was, but for the upper number
 pub record Kept {R : Type 0} (row after : Row R) : Type 0 where

@@ -1,5 +1,5 @@
 -- What a table of nodes writes at each path, where ENTRY writes what a sheet of rows holds. Assumes nothing.
-use Rattle.std.specs.Prelude.{ℕ, zero, suc, ◌+◌, ◌-◌, Bool, true, false, cond, ◌&&◌, ◌||◌, List, [], ◌∷◌, is_some, Some, None, Option, ◌==◌, slice_index_or}
+use Rattle.std.specs.Prelude.{ℕ, Bool, true, false, cond, ◌&&◌, ◌||◌, List, [], ◌∷◌, is_some, Some, None, Option, ◌==◌, slice_index_or}
 use Rattle.std.specs.Option.{unwrap_or}
 use Rattle.kinds.specs.Domain.{Domain}
 use Rattle.masks.specs.Masks.{has}
@@ -7,21 +7,21 @@ use Rattle.concepts.specs.Concepts.{Concept, thing}
 use Rattle.concepts.specs.Tables.{is_nothing, is_prim, is_within, is_and, is_all, is_at_least, is_at_most, is_entry, values}
 use Rattle.concepts.specs.declared.node.Node.{Node}
 use Rattle.forms.specs.Labels.{Label, silent, join, here, under, writes, bottom, an_atom, a_range, a_lower, an_upper, label}
-use Rattle.forms.specs.declared.row.Row.{Row}
+use Rattle.rows.specs.Hanging.{Hook, child_in}
+use Rattle.rows.specs.declared.row.Row.{Row}
 
 -- what is written at each path, and which paths are written
 pub record Form (V : Type 0) : Type 0 where
   pub at : List ℕ → Label V
   pub on : List ℕ → Bool
 
--- the first of m rows from b on that hangs from row c by the role r
-abbrev pub child_from : {R : Type 0} → (ℕ → Row R) → ℕ → ℕ → ℕ → ℕ → Option ℕ
-child_from T c r zero b = None
-child_from T c r (suc m) b = cond ((T b).parent == c && (T b).role == r) (Some b) (child_from T c r m (b + 1))
+-- where the rows hang
+abbrev pub hooks : {R : Type 0} → (ℕ → Row R) → ℕ → Hook
+hooks T i = ((T i).parent, (T i).role)
 
 -- the child of row c by the role r, among n rows: a later row
 abbrev pub child : {R : Type 0} → (ℕ → Row R) → ℕ → ℕ → ℕ → Option ℕ
-child T n c r = child_from T c r (n - (c + 1)) (c + 1)
+child T n c r = child_in (hooks T) n c r
 
 -- the row that a path leads to
 abbrev pub onward : {A : Type 0} → (ℕ → Option A) → Option ℕ → Option A

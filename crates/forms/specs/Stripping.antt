@@ -5,7 +5,7 @@ use Rattle.masks.specs.Masks.{None as NoMember}
 use Rattle.forms.specs.Labels.{Label}
 use Rattle.forms.specs.Finished.{Dead, FinishedBy}
 use Rattle.forms.specs.Laid.{Closing, Placed, Settled}
-use Rattle.forms.specs.declared.row.Row.{Row}
+use Rattle.rows.specs.declared.row.Row.{Row}
 
 -- the upper number is 0
 abbrev pub is_zero : Option ℕ → Bool

@@ -3,13 +3,13 @@ use Rattle.std.specs.Prelude.{◌≡◌, ℕ, ◌-◌, ◌<◌, ◌≤◌, Bool,
 use Rattle.kinds.specs.Domain.{Domain}
 use Rattle.masks.specs.Masks.{has}
 use Rattle.concepts.specs.declared.node.Node.{Node}
-use Rattle.forms.specs.Tables.{then_role}
+use Rattle.rows.specs.Tables.{then_role}
 use Rattle.forms.specs.Sheets.{Form, node_form}
 use Rattle.forms.specs.Seen.{entries}
 use Rattle.forms.specs.Laying.{Next, Final}
 use Rattle.forms.specs.Laid.{Placed, Filled, Flagged}
 use Rattle.forms.specs.Few.{Few}
-use Rattle.forms.specs.declared.row.Row.{Row}
+use Rattle.rows.specs.declared.row.Row.{Row}
 
 -- the lowest number of a set from a bound on
 abbrev pub Lowest : ℕ → ℕ → Option ℕ → Type 0

@@ -6,13 +6,13 @@ ghost use Rattle.forms.specs.Seen.{Supplied, Stocked};
 
 use crate::built::Built;
 use crate::lay::lay;
-use crate::row::Row;
 use crate::settle::settle;
-use crate::sheets::{BLOCK, Sheets};
+use crate::sheets::Sheets;
 use crate::strip::strip;
 use concepts::description::Description;
 use concepts::node::Node;
 use kinds::kind::Kind;
+use rows::row::{MOST_ROWS, Row};
 
 // Whether a block has the rows that are said to be held there, if any are.
 fn supplied<K>(rows: Option<u8>, block: &[Row<K>]) -> bool
@@ -48,7 +48,7 @@ fn form<K: Kind>(
     requires room { 128 ≤ length out.old }
     ensures { Forms K.Kind.domain held.now sheets.entry.front.now sheets.entry.back.now nodes.now out.new result }
 {
-    let mut dead = [false; BLOCK];
+    let mut dead = [false; MOST_ROWS];
     let n = lay(nodes, held, sheets, out, &mut dead);
     if settle(out, n, &mut dead) {
         None
@@ -67,7 +67,7 @@ pub fn build<K: Kind>(
 {
     let nodes = description.nodes();
     let held = description.held();
-    if out.len() < BLOCK || !stocked(held, sheets) {
+    if out.len() < MOST_ROWS || !stocked(held, sheets) {
         return Built::Unfit;
     }
     match form(nodes, held, sheets, out) {

@@ -1,31 +1,12 @@
 // Finding a row of a form by its path.
-ghost use Rattle.std.specs.Prelude.{◌≡◌, ℕ, ◌<◌, ◌≤◌, ◌&&◌, length, is_some, ◌==◌, nat_lt};
+ghost use Rattle.std.specs.Prelude.{◌≡◌, ℕ, ◌<◌, ◌≤◌, ◌&&◌, length, is_some, nat_lt};
 ghost use Rattle.masks.specs.Masks.{has};
-ghost use Rattle.forms.specs.Tables.{rows_of};
+ghost use Rattle.rows.specs.Tables.{rows_of};
 ghost use Rattle.forms.specs.Sheets.{child as child_of, find as find_row};
 
-use crate::row::Row;
 use masks::{joined, single};
-
-// Whether the row hangs from row `c` by a role.
-fn hangs<K>(row: &Row<K>, c: usize, role: u8) -> bool
-    ensures { result ≡ (row.now.parent == c && row.now.role == role) }
-{
-    row.parent as usize == c && row.role == role
-}
-
-// The row that hangs from row `c` by a role, among the first `n`.
-fn child<K: Copy>(rows: &[Row<K>], n: usize, c: usize, role: u8) -> Option<usize>
-    requires { n ≤ length rows.now }
-    ensures { (e : Row K) → result ≡ child_of (rows_of e rows.now) n c role }
-{
-    for b in c.saturating_add(1)..n {
-        if hangs(&rows[b], c, role) {
-            return Some(b);
-        }
-    }
-    None
-}
+use rows::hung::child;
+use rows::row::Row;
 
 // The row at a path, among the first `n`.
 pub(crate) fn find<K: Copy>(rows: &[Row<K>], n: usize, path: &[u8]) -> Option<usize>
@@ -34,7 +15,7 @@ pub(crate) fn find<K: Copy>(rows: &[Row<K>], n: usize, path: &[u8]) -> Option<us
 {
     let mut c = 0;
     for role in path {
-        match child(rows, n, c, *role) {
+        match child(&rows[0..n], c, *role) {
             Some(b) => c = b,
             None => return None,
         }

@@ -4,9 +4,9 @@ ghost use Rattle.forms.specs.Seen.{Holds};
 ghost use Rattle.forms.specs.Labels.{Label as Written, silent as nothing_written, join, least as smaller, bottom, an_atom, a_range, a_lower, an_upper};
 ghost use Rattle.forms.specs.Sheets.{row_label};
 
-use crate::row::Row;
 use kinds::kind::Kind;
 use masks::{joined, single};
+use rows::row::Row;
 
 // NOTHING or not, the atoms, the restriction, the largest AT-LEAST and the smallest AT-MOST.
 #[derive(Clone, Copy)]

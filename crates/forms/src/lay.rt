@@ -2,17 +2,17 @@
 ghost use Rattle.std.specs.Prelude.{◌≡◌, ℕ, ◌<◌, ◌≤◌, length, drop, IfSome, slice_set};
 ghost use Rattle.concepts.specs.WellFormed.{WellFormed};
 ghost use Rattle.forms.specs.Seen.{Stocked};
-ghost use Rattle.forms.specs.Tables.{rows_of};
+ghost use Rattle.rows.specs.Tables.{rows_of};
 ghost use Rattle.forms.specs.Walks.{Lowest, Starts, Narrow, Turn, Ahead, whole_form, Proper, LaidOut, flags_of};
 
 use crate::find::find;
 use crate::label::Label;
 use crate::look::look;
-use crate::row::Row;
 use crate::sheets::Sheets;
 use concepts::node::Node;
 use kinds::kind::Kind;
 use masks::has;
+use rows::row::Row;
 
 // The lowest of a set of roles, from a bound on.
 fn lowest(roles: u64, from: u8) -> Option<u8>

@@ -4,11 +4,10 @@
 pub mod build;
 pub mod built;
 mod find;
-pub mod group;
 mod label;
 mod lay;
 mod look;
-pub mod row;
 mod settle;
 pub mod sheets;
+mod source;
 mod strip;

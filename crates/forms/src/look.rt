@@ -8,15 +8,15 @@ ghost use Rattle.concepts.specs.WellFormed.{WellFormed};
 ghost use Rattle.forms.specs.Labels.{Label as Written, silent as nothing_written};
 ghost use Rattle.forms.specs.Seen.{Holds, Seen, Stocked, begins, entries};
 ghost use Rattle.forms.specs.Sheets.{Form, plain_form, both_forms, under_form, sheet_form, form_of, node_form};
-ghost use Rattle.forms.specs.Tables.{rows_of};
+ghost use Rattle.rows.specs.Tables.{rows_of};
 
 use crate::find::{find, roles_below};
 use crate::label::{Label, at_least, at_most, both, nothing, of_row, prim, silent, within};
-use crate::row::Row;
 use crate::sheets::Sheets;
 use concepts::node::{ALL, AND, AT_LEAST, AT_MOST, ENTRY, NOTHING, Node, PRIM, WITHIN};
 use kinds::kind::Kind;
 use masks::{joined, single};
+use rows::row::Row;
 
 // The label at a path, and the roles that are written after it.
 #[derive(Clone, Copy)]

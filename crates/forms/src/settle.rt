@@ -1,19 +1,16 @@
 // Settling the numbers of a table: where nothing is allowed, the upper number becomes 0.
 ghost use Rattle.std.specs.Prelude.{◌≡◌, ◌<◌, ◌≤◌, length, Decides};
-ghost use Rattle.forms.specs.Finished.{Over};
+ghost use Rattle.rows.specs.Numbers.{Over};
 ghost use Rattle.forms.specs.Settling.{Closes, Settles};
 
-use crate::row::Row;
 use kinds::kind::Kind;
+use rows::row::Row;
 
 // Whether the lower number is above the upper one.
-fn over(lower: u16, upper: Option<u16>) -> bool
-    ensures { Decides result (Over lower upper) }
+fn over<K>(row: &Row<K>) -> bool
+    ensures { Decides result (Over row.now.lower row.now.upper) }
 {
-    match upper {
-        None => false,
-        Some(most) => lower > most,
-    }
+    row.upper.is_some_and(|most| row.lower > most)
 }
 
 // The row with the upper number 0 if it is dead or admits no reading.
@@ -39,7 +36,7 @@ pub(crate) fn settle<K: Kind>(rows: &mut [Row<K>], n: usize, dead: &mut [bool]) 
         let row = closed(rows[c], dead[c]);
         rows[c] = row;
         let parent = row.parent as usize;
-        if parent < n && over(row.lower, row.upper) {
+        if parent < n && over(&row) {
             dead[parent] = true;
         }
     }

@@ -2,10 +2,7 @@
 ghost use Rattle.std.specs.Prelude.{◌≡◌};
 ghost use Rattle.forms.specs.Blocks.{part_of, block_of};
 
-use crate::row::Row;
-
-// The rows of a place.
-pub const BLOCK: usize = 128;
+use rows::row::{MOST_ROWS, Row};
 
 // The blocks of the places before the one that is written, and of those after it.
 #[derive(Clone, Copy)]
@@ -17,10 +14,10 @@ pub struct Sheets<'a, K> {
 fn part<'a, K>(rows: &'a [Row<K>], place: usize) -> &'a [Row<K>]
     ensures { result.now ≡ part_of rows.now place }
 {
-    let blocks = rows.len() / BLOCK;
+    let blocks = rows.len() / MOST_ROWS;
     if place < blocks {
-        let from = place * BLOCK;
-        &rows[from..from + BLOCK]
+        let from = place * MOST_ROWS;
+        &rows[from..from + MOST_ROWS]
     } else {
         &rows[0..0]
     }
@@ -31,7 +28,7 @@ impl<'a, K> Sheets<'a, K> {
     pub fn of(&self, place: usize) -> &'a [Row<K>]
         ensures value { result.now ≡ block_of self.now.front.now self.now.back.now place }
     {
-        let before = self.front.len() / BLOCK;
+        let before = self.front.len() / MOST_ROWS;
         if place < before {
             part(self.front, place)
         } else if place == before {

@@ -2,10 +2,8 @@
 ghost use Rattle.std.specs.Prelude.{◌≡◌, ℕ, ◌<◌, ◌≤◌, length, slice_index_or};
 ghost use Rattle.forms.specs.Stripping.{is_zero as is_zero_upper, Hung, Strips};
 
-use crate::row::Row;
 use kinds::kind::Kind;
-
-const MOST_ROWS: usize = 128;
+use rows::row::{MOST_ROWS, Row};
 
 // What stands at `i`, or `past` where the slice has no such element.
 fn at<T: Copy>(items: &[T], i: u8, past: T) -> T

@@ -3,10 +3,10 @@ use concepts::description::checks::check;
 use concepts::node::{ALL, AND, AT_LEAST, AT_MOST, ENTRY, NOTHING, Node, PRIM, THING, WITHIN};
 use forms::build::build;
 use forms::built::Built;
-use forms::row::Row;
 use forms::sheets::Sheets;
 use kinds::kind::Kind;
 use kinds::span::Span;
+use rows::row::Row;
 use std::process::Abort;
 use std::test::Fail;
 

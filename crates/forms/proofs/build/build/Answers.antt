@@ -4,13 +4,13 @@ use Rattle.forms.specs.Built.{Forms}
 use Rattle.std.proofs.lemmas.Bool.Decides.{not_from_Decides}
 use Rattle.forms.specs.Seen.{Stocked}
 use Rattle.forms.proofs.build.build.Goals as goal
-use Rattle.forms.proofs.build.build.Goals.{then-out-lt-BLOCK-via-then-out-lt-BLOCK, then-out-lt-BLOCK-via-else-out-lt-BLOCK+then-not-stocked}
+use Rattle.forms.proofs.build.build.Goals.{then-out-lt-MOST_ROWS-via-then-out-lt-MOST_ROWS, then-out-lt-MOST_ROWS-via-else-out-lt-MOST_ROWS+then-not-stocked}
 
-pub returns-then-out-lt-BLOCK : goal.returns-then-out-lt-BLOCK
-returns-then-out-lt-BLOCK g c = record {
-  answer = λ fit. elim c.then-out-lt-BLOCK.branch [
-    | then-out-lt-BLOCK-via-then-out-lt-BLOCK w ↦ omega (arith, fit.0, w.if-out-lt-BLOCK.true)
-    | then-out-lt-BLOCK-via-else-out-lt-BLOCK+then-not-stocked w ↦ not_from_Decides _ w.stocked.ensures w.if-not-stocked.true
+pub returns-then-out-lt-MOST_ROWS : goal.returns-then-out-lt-MOST_ROWS
+returns-then-out-lt-MOST_ROWS g c = record {
+  answer = λ fit. elim c.then-out-lt-MOST_ROWS.branch [
+    | then-out-lt-MOST_ROWS-via-then-out-lt-MOST_ROWS w ↦ omega (arith, fit.0, w.if-out-lt-MOST_ROWS.true)
+    | then-out-lt-MOST_ROWS-via-else-out-lt-MOST_ROWS+then-not-stocked w ↦ not_from_Decides _ w.stocked.ensures w.if-not-stocked.true
         (subst (λ xs. Stocked xs c.args.sheets.front.now c.args.sheets.back.now) (sym c.held-held.ensures.value) fit.1)
   ];
 }
@@ -19,7 +19,7 @@ pub form-requires : goal.form-requires
 form-requires g c = record {
   fine = subst (λ xs. WellFormed xs c.nodes-nodes.result.now) (sym c.held-held.ensures.value) c.nodes-nodes.ensures.fine;
   stocked = c.stocked.ensures.0 c.if-not-stocked.false;
-  room = c.if-out-lt-BLOCK.false;
+  room = c.if-out-lt-MOST_ROWS.false;
 }
 
 pub returns-in-Some : goal.returns-in-Some

@@ -1,5 +1,5 @@
 use Rattle.std.proofs.Common.{Bool, subst}
-use Rattle.forms.specs.Tables.{rows_of}
+use Rattle.rows.specs.Tables.{rows_of}
 use Rattle.forms.specs.Settling.{Comes}
 use Rattle.forms.specs.Walks.{flags_of}
 use Rattle.forms.proofs.Assembling.{assembled, refuted, whole_proper}

@@ -1,7 +1,7 @@
 use Rattle.std.proofs.Common.{◌≡◌, drop}
-use Rattle.forms.specs.Tables.{rows_of}
+use Rattle.rows.specs.Tables.{rows_of}
 use Rattle.forms.specs.Sheets.{find}
-use Rattle.forms.specs.declared.row.Row.{Row}
+use Rattle.rows.specs.declared.row.Row.{Row}
 use Rattle.forms.proofs.find.find.Given as goal
 
 abbrev pub invariant-loop-role : goal.invariant-loop-role

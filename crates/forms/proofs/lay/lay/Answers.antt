@@ -3,7 +3,7 @@ use Rattle.std.proofs.lemmas.List.{take-take, take_more_set, take-append-drop, l
 use Rattle.forms.specs.Laying.{Next, Final}
 use Rattle.forms.specs.Seen.{Seen}
 use Rattle.forms.specs.Sheets.{find}
-use Rattle.forms.specs.Tables.{then_role, rows_of}
+use Rattle.rows.specs.Tables.{then_role, rows_of}
 use Rattle.forms.specs.Walks.{whole_form}
 use Rattle.forms.proofs.Finding.{find_below}
 use Rattle.forms.proofs.Fronts.{fronted_whole}

@@ -1,6 +1,6 @@
 use Rattle.std.proofs.Common.{◌≡◌, ◌-◌, ◌<◌, ◌≤◌, length, take}
 use Rattle.forms.specs.Walks.{Proper, whole_form}
-use Rattle.forms.specs.declared.row.Row.{Row}
+use Rattle.rows.specs.declared.row.Row.{Row}
 use Rattle.forms.proofs.Fronts.{fronted_whole}
 use Rattle.forms.proofs.Lining.{LaidTo}
 use Rattle.forms.proofs.lay.lay.Given as goal

@@ -1,6 +1,6 @@
 use Rattle.std.proofs.Common.{◌+◌, ◌≤◌, length}
 use Rattle.forms.specs.Walks.{Narrow, whole_form}
-use Rattle.forms.specs.declared.row.Row.{Row}
+use Rattle.rows.specs.declared.row.Row.{Row}
 use Rattle.forms.proofs.Successors.{Early}
 use Rattle.forms.proofs.lay.next.Given as goal
 

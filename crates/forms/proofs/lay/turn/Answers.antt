@@ -1,6 +1,6 @@
 use Rattle.std.proofs.Common.{◌≡◌, ℕ, ◌-◌, ◌&&◌, ltb, take, subst, arith}
 use Rattle.masks.specs.Masks.{has}
-use Rattle.forms.specs.Tables.{then_role}
+use Rattle.rows.specs.Tables.{then_role}
 use Rattle.forms.specs.Walks.{whole_form}
 use Rattle.forms.proofs.Walking.{turn_by}
 use Rattle.forms.proofs.lay.turn.Goals as goal

@@ -1,5 +1,5 @@
 use Rattle.std.proofs.Common.{◌≤◌, length, sym, subst}
-use Rattle.forms.specs.Tables.{rows_of}
+use Rattle.rows.specs.Tables.{rows_of}
 use Rattle.forms.specs.Sheets.{sheet_form}
 use Rattle.forms.specs.Seen.{Seen}
 use Rattle.forms.specs.Blocks.{block_of}

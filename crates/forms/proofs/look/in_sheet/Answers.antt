@@ -1,6 +1,6 @@
 use Rattle.std.proofs.Common.{◌<◌, subst, arith}
 use Rattle.std.proofs.lemmas.List.{get_or_read}
-use Rattle.forms.specs.Tables.{rows_of}
+use Rattle.rows.specs.Tables.{rows_of}
 use Rattle.forms.specs.Sheets.{row_label}
 use Rattle.forms.specs.Seen.{Holds}
 use Rattle.forms.proofs.Finding.{find_below}

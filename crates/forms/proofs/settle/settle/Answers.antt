@@ -3,7 +3,7 @@ use Rattle.std.proofs.lemmas.List.{get_or-set_same, get_or-set_other, get_or_def
 use Rattle.std.proofs.lemmas.Bool.{both_ways}
 use Rattle.std.proofs.lemmas.Bool.Decides.{not_from_Decides}
 use Rattle.kinds.specs.Domain.{Empty}
-use Rattle.forms.specs.declared.row.Row.{Row}
+use Rattle.rows.specs.declared.row.Row.{Row}
 use Rattle.forms.proofs.Settling.{going_none, going_more, going_all}
 use Rattle.forms.proofs.settle.settle.Goals as goal
 use Rattle.forms.proofs.settle.settle.Goals.{else-parent-n-via-then-parent-n+else-over, else-parent-n-via-else-parent-n}
