@@ -11,6 +11,7 @@ use rows::row::Row;
 // NOTHING or not, the atoms, the restriction, the largest AT-LEAST and the smallest AT-MOST.
 #[derive(Clone, Copy)]
 pub struct Label<K> {
+    // No Option round the rest: where NOTHING is written, a row is laid with the other values as well.
     pub empty: bool,
     pub atoms: u64,
     pub restriction: K,
@@ -24,8 +25,7 @@ fn least(a: Option<u16>, b: Option<u16>) -> Option<u16>
 {
     match (a, b) {
         (Some(u), Some(v)) => Some(u.min(v)),
-        (Some(u), None) => Some(u),
-        (None, _) => b,
+        _ => a.or(b),
     }
 }
 
