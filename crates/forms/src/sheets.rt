@@ -3,6 +3,7 @@ ghost use Rattle.std.specs.Prelude.{◌≡◌};
 ghost use Rattle.forms.specs.Blocks.{part_of, block_of};
 
 use rows::row::{MOST_ROWS, Row};
+use std::cmp::Ordering;
 
 // The blocks of the places before the one that is written, and of those after it.
 #[derive(Clone, Copy)]
@@ -11,16 +12,11 @@ pub struct Sheets<'a, K> {
     pub back: &'a [Row<K>],
 }
 
+// The block of a place among the blocks of some rows; none where it has no block.
 fn part<'a, K>(rows: &'a [Row<K>], place: usize) -> &'a [Row<K>]
     ensures { result.now ≡ part_of rows.now place }
 {
-    let blocks = rows.len() / MOST_ROWS;
-    if place < blocks {
-        let from = place * MOST_ROWS;
-        &rows[from..from + MOST_ROWS]
-    } else {
-        &rows[0..0]
-    }
+    rows.chunks_exact(MOST_ROWS).nth(place).unwrap_or(&[])
 }
 
 impl<'a, K> Sheets<'a, K> {
@@ -29,12 +25,10 @@ impl<'a, K> Sheets<'a, K> {
         ensures value { result.now ≡ block_of self.now.front.now self.now.back.now place }
     {
         let before = self.front.len() / MOST_ROWS;
-        if place < before {
-            part(self.front, place)
-        } else if place == before {
-            &self.back[0..0]
-        } else {
-            part(self.back, place - before - 1)
+        match place.cmp(&before) {
+            Ordering::Less => part(self.front, place),
+            Ordering::Equal => &[],
+            Ordering::Greater => part(self.back, place - before - 1),
         }
     }
 }
