@@ -25,3 +25,4 @@ pub mod Listing
 pub mod Stocking
 pub mod Children
 pub mod Sights
+mod Cutting

@@ -1,7 +1,8 @@
 -- A table whose rows are closed from the flags, and whose flags come from the rows below, is settled. Assumes nothing.
-use Rattle.std.proofs.Common.{◌≡◌, ℕ, zero, suc, ◌+◌, ◌-◌, ◌<◌, ◌≤◌, Bool, true, false, ◌⊎◌, List, [], ◌∷◌, length, get_or, set, Some, None, Option, sym, refl, ap, ◌∙◌, subst, inl, inr, ⊎_elim, arith, length-append}
-use Rattle.std.proofs.lemmas.List.{get_or_read, get_or-set_same, get_or-set_other, length-set}
+use Rattle.std.proofs.Common.{◌≡◌, ℕ, zero, suc, ◌+◌, ◌-◌, ◌<◌, ◌≤◌, Bool, true, false, Decides, ◌⊎◌, List, [], ◌∷◌, length, get_or, set, Some, None, Option, sym, refl, ap, ◌∙◌, subst, inl, inr, ⊎_elim, arith, length-append}
+use Rattle.std.proofs.lemmas.List.{get_or_read, get_or_default, get_or-set_same, get_or-set_other, length-set}
 use Rattle.std.proofs.lemmas.Bool.{both_ways, and_cases, and_left, and_right, cases_Bool, cases_lt, cases_eq}
+use Rattle.std.proofs.lemmas.Bool.Decides.{not_from_Decides}
 use Rattle.kinds.specs.Domain.{Domain, Empty}
 use Rattle.masks.specs.Masks.{has}
 use Rattle.rows.specs.Numbers.{Over}
@@ -239,7 +240,6 @@ module _ {R V : Type 0} (k : Domain R V) (S T U : ℕ → Row R) (start d g : �
 pub record Going {R V : Type 0} (k : Domain R V) (xs ys : List (Row R)) (ds es : List Bool) (n i : ℕ) : Type 0 where
   pub some : 0 < i
   pub size : length ys ≡ length xs
-  pub flags : length es ≡ length ds
   pub kept : (e : Row R) (c : ℕ) → Kept (get_or xs c e) (get_or ys c e)
   pub past : (e : Row R) (c : ℕ) → n ≤ c → get_or ys c e ≡ get_or xs c e
   pub ahead : (e : Row R) (c : ℕ) → c < i → get_or ys c e ≡ get_or xs c e
@@ -249,7 +249,6 @@ pub going_none : {R V : Type 0} (k : Domain R V) (xs : List (Row R)) (ds : List 
 going_none k xs ds n some = record {
   some = some;
   size = refl;
-  flags = refl;
   kept = λ e c. record { parent = refl; role = refl; lower = refl; atoms = refl; restriction = refl };
   past = λ e c l. refl;
   ahead = λ e c l. refl;
@@ -259,9 +258,20 @@ going_none k xs ds n some = record {
 -- One turn of the loop: row j - 1 becomes `after`.
 module _ {R V : Type 0} (k : Domain R V) (xs ys : List (Row R)) (ds es gs : List Bool) (n j : ℕ) (row after : Row R)
     (go : Going k xs ys ds es n j) (more : 1 < j) (most : j ≤ n) (fits : n ≤ length ys) (read : row ≡ get_or ys (j - 1) row)
-    (closes : Closes k row (get_or es (j - 1) false) after) (long : length gs ≡ length es)
-    (flags : (c : ℕ) → (c ≡ after.parent → ⊥) → get_or gs c false ≡ get_or es c false)
-    (raised : after.parent < n → Raised after (λ c. get_or es c false) (λ c. get_or gs c false) after.parent) where
+    (closes : Closes k row (get_or es (j - 1) false) after)
+    (marks : ((gs ≡ set es after.parent true) × (after.parent < length es) × Over after.lower after.upper) ⊎ ((gs ≡ es) × (after.parent < n → Over after.lower after.upper → ⊥))) where
+  flags : (c : ℕ) → (c ≡ after.parent → ⊥) → get_or gs c false ≡ get_or es c false
+  flags c ne = ⊎_elim
+      (λ h. ap (λ x. get_or x c false) h.0 ∙ get_or-set_other es after.parent c true false ne)
+      (λ h. ap (λ x. get_or x c false) h.0)
+      marks
+
+  raised : after.parent < n → Raised after (λ c. get_or es c false) (λ c. get_or gs c false) after.parent
+  raised l = ⊎_elim
+      (λ h. inl (h.2, ap (λ x. get_or x after.parent false) h.0 ∙ get_or-set_same es after.parent true false h.1))
+      (λ h. inr (h.1 l, ap (λ x. get_or x after.parent false) h.0))
+      marks
+
   it : (e : Row R) → row ≡ get_or xs (j - 1) e
   it e = get_or_read ys (j - 1) row (omega arith) read e ∙ go.ahead e (j - 1) (omega arith)
 
@@ -290,7 +300,6 @@ module _ {R V : Type 0} (k : Domain R V) (xs ys : List (Row R)) (ds es gs : List
   going_more = record {
     some = omega arith;
     size = length-set ys (j - 1) after ∙ go.size;
-    flags = long ∙ go.flags;
     kept = kept_more;
     past = λ e c l. other e c (λ p. omega arith) ∙ go.past e c l;
     ahead = λ e c l. other e c (λ p. omega arith) ∙ go.ahead e c (omega arith);
@@ -305,10 +314,13 @@ module _ {R V : Type 0} (k : Domain R V) (xs ys : List (Row R)) (ds es gs : List
   }
 
 -- The end of the loop: r tells whether row 0 is bare.
-module _ {R V : Type 0} (k : Domain R V) (xs ys : List (Row R)) (ds es : List Bool) (n i : ℕ) (go : Going k xs ys ds es n i) (last : i ≤ 1) (r : Bool)
-    (yes : (e : Row R) → r ≡ true → Bare k (get_or ys 0 e) (get_or es 0 false)) (no : (e : Row R) → r ≡ false → Bare k (get_or ys 0 e) (get_or es 0 false) → ⊥) where
-  first : (e : Row R) → get_or ys 0 e ≡ get_or xs 0 e
-  first e = go.ahead e 0 go.some
+module _ {R V : Type 0} (k : Domain R V) (xs ys : List (Row R)) (ds es : List Bool) (n i : ℕ) (d : Row R) (r : Bool)
+    (go : Going k xs ys ds es n i) (last : i ≤ 1) (some : 0 < length ys) (tells : Decides r (Bare k (get_or ys 0 d) (get_or es 0 false))) where
+  same : (e : Row R) → get_or ys 0 e ≡ get_or xs 0 e
+  same e = go.ahead e 0 go.some
+
+  top : (e : Row R) → get_or ys 0 d ≡ get_or xs 0 e
+  top e = get_or_default ys 0 d e some ∙ same e
 
   module _ (e : Row R) (f : List ℕ → Label V) (w : List ℕ → Bool) (laid : Ready k f w (λ c. get_or xs c e) n (λ c. get_or ds c false)) where
     thr : Through k (λ c. get_or xs c e) (λ c. get_or ys c e) (λ c. get_or ds c false) (λ c. get_or es c false) n 1
@@ -316,18 +328,18 @@ module _ {R V : Type 0} (k : Domain R V) (xs ys : List (Row R)) (ds es : List Bo
         let q : i ≡ 1 = omega (arith, go.some) in
         subst (λ x. Through k (λ c. get_or xs c e) (λ c. get_or ys c e) (λ c. get_or ds c false) (λ c. get_or es c false) n x) q (go.through e laid.placed.parents)
 
-    bare_start : Bare k (get_or ys 0 e) (get_or es 0 false) → Bare k (get_or xs 0 e) (get_or es 0 false)
-    bare_start = subst (λ x. Bare k x (get_or es 0 false)) (first e)
+    bare : r ≡ true → Bare k (get_or xs 0 e) (get_or es 0 false)
+    bare h = subst (λ x. Bare k x (get_or es 0 false)) (top e) (tells.0 h)
 
-    bare_end : Bare k (get_or xs 0 e) (get_or es 0 false) → Bare k (get_or ys 0 e) (get_or es 0 false)
-    bare_end = subst (λ x. Bare k x (get_or es 0 false)) (sym (first e))
+    lives : r ≡ false → Bare k (get_or xs 0 e) (get_or es 0 false) → ⊥
+    lives h x = not_from_Decides r tells h (subst (λ x. Bare k x (get_or es 0 false)) (sym (top e)) x)
 
     comes : Comes k f w (λ c. get_or ys c e) n r
     comes = record {
-      dead = λ h. bare_dies k f w _ _ _ _ n laid thr 0 [] laid.placed.some root (bare_start (yes e h));
-      live = λ h x. no e h (bare_end (dies_bare k f w _ _ _ _ n laid thr 0 [] laid.placed.some root x));
+      dead = λ h. bare_dies k f w _ _ _ _ n laid thr 0 [] laid.placed.some root (bare h);
+      live = λ h x. lives h (dies_bare k f w _ _ _ _ n laid thr 0 [] laid.placed.some root x);
       placed = still_placed k f w _ _ _ _ n laid thr (go.kept e);
-      settled = λ h. is_settled k f w _ _ _ _ n laid thr (go.kept e) (ap (λ x. x.upper) (first e)) (λ x. no e h (bare_end x));
+      settled = λ h. is_settled k f w _ _ _ _ n laid thr (go.kept e) (ap (λ x. x.upper) (same e)) (lives h);
     }
 
   pub going_all : Settles k xs n ds r ys

@@ -50,10 +50,11 @@ fn form<K: Kind>(
 {
     let mut dead = [false; MOST_ROWS];
     let n = lay(nodes, held, sheets, out, &mut dead);
-    if settle(out, n, &mut dead) {
+    let rows = &mut out[..n];
+    if settle(rows, &mut dead) {
         None
     } else {
-        Some(strip(out, n))
+        Some(strip(rows))
     }
 }
 

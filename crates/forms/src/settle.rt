@@ -1,10 +1,10 @@
 // Settling the numbers of a table: where nothing is allowed, the upper number becomes 0.
 ghost use Rattle.std.specs.Prelude.{◌≡◌, ◌<◌, ◌≤◌, length, Decides};
 ghost use Rattle.rows.specs.Numbers.{Over};
-ghost use Rattle.forms.specs.Settling.{Closes, Settles};
+ghost use Rattle.forms.specs.Settling.{Bare, Closes, Settles};
 
 use kinds::kind::Kind;
-use rows::row::Row;
+use rows::row::{MOST_ROWS, Row};
 
 // Whether the lower number is above the upper one.
 fn over<K>(row: &Row<K>) -> bool
@@ -13,32 +13,42 @@ fn over<K>(row: &Row<K>) -> bool
     row.upper.is_some_and(|most| row.lower > most)
 }
 
-// The row with the upper number 0 if it is dead or admits no reading.
+// Whether nothing can stand at a row: it is dead, or admits no reading.
+fn bare<K: Kind>(row: &Row<K>, dead: bool) -> bool
+    ensures { Decides result (Bare K.Kind.domain row.now dead) }
+{
+    dead || row.restriction.is_empty()
+}
+
+// The row, with the upper number 0 if nothing can stand there.
 fn closed<K: Kind>(row: Row<K>, dead: bool) -> Row<K>
     ensures { Closes K.Kind.domain row dead result }
 {
-    let mut row = row;
-    if dead || row.restriction.is_empty() {
-        row.upper = Some(0);
+    if bare(&row, dead) {
+        Row {
+            upper: Some(0),
+            ..row
+        }
+    } else {
+        row
     }
-    row
 }
 
-// Settles the first `n` rows, each before the row that it hangs from, and says whether nothing can stand at row 0.
+// Settles the rows, each before the row that it hangs from, and says whether nothing can stand at row 0.
 // At the start `dead` has the rows where NOTHING is written.
-pub(crate) fn settle<K: Kind>(rows: &mut [Row<K>], n: usize, dead: &mut [bool]) -> bool
-    requires some { 0 < n }
-    requires rows { n ≤ length rows.old }
-    requires flags { n ≤ length dead.old }
-    ensures { Settles K.Kind.domain rows.old n dead.old result rows.new }
+pub(crate) fn settle<K: Kind>(rows: &mut [Row<K>], dead: &mut [bool; MOST_ROWS]) -> bool
+    requires some { 0 < length rows.old }
+    requires few { length rows.old ≤ 128 }
+    ensures { Settles K.Kind.domain rows.old (length rows.old) dead.old result rows.new }
 {
-    for c in (1..n).rev() {
+    // By index: the loop also writes the flag of another row.
+    for c in (1..rows.len()).rev() {
         let row = closed(rows[c], dead[c]);
         rows[c] = row;
-        let parent = row.parent as usize;
-        if parent < n && over(&row) {
+        let parent = usize::from(row.parent);
+        if parent < dead.len() && over(&row) {
             dead[parent] = true;
         }
     }
-    dead[0] || rows[0].restriction.is_empty()
+    bare(&rows[0], dead[0])
 }

@@ -1,49 +1,30 @@
-use Rattle.std.proofs.Common.{◌<◌, ◌≤◌, length, sym, arith, length-set, rules}
+use Rattle.std.proofs.Common.{◌≡◌, set, cond, not, Some, arith}
+use Rattle.std.proofs.lemmas.Grind.{common_steps}
+use Rattle.forms.specs.Stripping.{is_zero}
 use Rattle.forms.proofs.Sweeping.{swept_none, swept_shut, swept_more, swept_all}
 use Rattle.forms.proofs.strip.strip.Goals as goal
+use Rattle.forms.proofs.strip.strip.Goals.{then-not-is_zero, else-not-is_zero}
 
 pub loop-c-init : goal.loop-c-init
-loop-c-init g c = swept_none g.K.Kind.domain c.args.rows.now c.args.n
+loop-c-init g c = swept_none g.K.Kind.domain c.args.rows.now
 
-pub slice_bounds-at-end : goal.slice_bounds-at-end
-slice_bounds-at-end g c = sym c.loop-c.invariant.shut_size
-
-pub loop-c-preserved-then-at : goal.loop-c-preserved-then-at
-loop-c-preserved-then-at g c =
+pub loop-c-preserved-in_default : goal.loop-c-preserved-in_default
+loop-c-preserved-in_default g c =
     let l = c.loop-c in
-    swept_shut g.K.Kind.domain c.args.rows.now c.args.n l.rows l.shut l.place l.m l.c c.index-rows-c.result
-    l.invariant (omega arith) c.loop-c-test.true c.requires.few (omega arith) c.index-rows-c.is c.if-at.ensures
-
-pub overflow_cast-place : goal.overflow_cast-place
-overflow_cast-place g c = omega arith
-
-pub slice_bounds-at-end-in-loop-c : goal.slice_bounds-at-end-in-loop-c
-slice_bounds-at-end-in-loop-c g c = sym (simp length-set c.loop-c.invariant.place_size)
-
-pub offset_bounds-rows-m : goal.offset_bounds-rows-m
-offset_bounds-rows-m g c = let h : c.loop-c.m < length c.args.rows.now = omega arith in search rules
-
-pub bounds-rows-m : goal.bounds-rows-m
-bounds-rows-m g c = omega arith
-
-pub overflow_add-m : goal.overflow_add-m
-overflow_add-m g c = omega arith
+    swept_shut g.K.Kind.domain c.args.rows.now l.rows l.under l.m l.c c.index-rows-c.result
+    l.invariant (omega arith) (omega arith) c.requires.few (omega arith) c.index-rows-c.is (grind (arith, common_steps))
 
 pub loop-c-preserved : goal.loop-c-preserved
 loop-c-preserved g c =
     let l = c.loop-c in
-    swept_more g.K.Kind.domain c.args.rows.now c.args.n l.rows l.shut l.place l.m l.c c.index-rows-c.result
-    l.invariant (omega arith) c.loop-c-test.true c.requires.few (omega arith) c.index-rows-c.is
-    c.is_zero.result c.at-in-loop-c.result c.hung.result c.if-at.ensures c.is_zero.ensures c.at-in-loop-c.ensures c.hung.ensures
+    let row = c.index-rows-c.result in
+    let marks : c.if-not-is_zero.under ≡ cond (not (is_zero row.upper)) (set l.under l.c (Some l.m)) l.under = elim c.if-not-is_zero.branch [
+      | then-not-is_zero w ↦ grind (arith, common_steps)
+      | else-not-is_zero w ↦ grind (arith, common_steps)
+    ] in
+    swept_more g.K.Kind.domain c.args.rows.now l.rows l.under l.m l.c row
+    l.invariant (omega arith) (omega arith) c.requires.few (omega arith) c.index-rows-c.is
+    c.if-not-is_zero.under c.in-Some.parent c.hung.result (grind (arith, common_steps)) c.hung.ensures marks
 
-pub returns : goal.returns
-returns g c =
-    let l = c.loop-c in
-    let x : l.c ≤ c.args.n = omega arith in
-    record {
-      left = l.invariant.some;
-      fewer = omega (arith, l.invariant.few);
-      first = l.invariant.first;
-      past = λ i e h. l.invariant.rest i e (omega arith);
-      finished = swept_all g.K.Kind.domain c.args.rows.now c.args.n l.rows l.shut l.place l.m l.c (omega arith) l.invariant;
-    }
+pub returns-clause-finished : goal.returns-clause-finished
+returns-clause-finished g c = swept_all g.K.Kind.domain c.args.rows.now _ _ _ _ (omega arith) c.loop-c.invariant
