@@ -1,6 +1,6 @@
 -- A table whose rows are closed from the flags, and whose flags come from the rows below, is settled. Assumes nothing.
 use Rattle.std.proofs.Common.{◌≡◌, ℕ, zero, suc, ◌+◌, ◌-◌, ◌<◌, ◌≤◌, Bool, true, false, Decides, ◌⊎◌, List, [], ◌∷◌, length, get_or, set, Some, None, Option, sym, refl, ap, ◌∙◌, subst, inl, inr, ⊎_elim, arith, length-append}
-use Rattle.std.proofs.lemmas.List.{get_or_read, get_or_default, get_or-set_same, get_or-set_other, length-set}
+use Rattle.std.proofs.lemmas.List.{get_or_past, get_or_read, get_or_default, get_or-set_same, get_or-set_other, length-set}
 use Rattle.std.proofs.lemmas.Bool.{both_ways, and_cases, and_left, and_right, cases_Bool, cases_lt, cases_eq}
 use Rattle.std.proofs.lemmas.Bool.Decides.{not_from_Decides}
 use Rattle.kinds.specs.Domain.{Domain, Empty}
@@ -237,36 +237,32 @@ module _ {R V : Type 0} (k : Domain R V) (S T U : ℕ → Row R) (start d g : �
   through_more = record { closes = closes_more; given = λ c e. stays c (thr.given c e); marked = marked_more; marks = marks_more }
 
 -- The rows xs have become ys from row i on, and the flags ds have become es.
-pub record Going {R V : Type 0} (k : Domain R V) (xs ys : List (Row R)) (ds es : List Bool) (n i : ℕ) : Type 0 where
+pub record Going {R V : Type 0} (k : Domain R V) (xs ys : List (Row R)) (ds es : List Bool) (i : ℕ) : Type 0 where
   pub some : 0 < i
-  pub size : length ys ≡ length xs
   pub kept : (e : Row R) (c : ℕ) → Kept (get_or xs c e) (get_or ys c e)
-  pub past : (e : Row R) (c : ℕ) → n ≤ c → get_or ys c e ≡ get_or xs c e
   pub ahead : (e : Row R) (c : ℕ) → c < i → get_or ys c e ≡ get_or xs c e
-  pub through : (e : Row R) → Earlier (λ c. get_or xs c e) n → Through k (λ c. get_or xs c e) (λ c. get_or ys c e) (λ c. get_or ds c false) (λ c. get_or es c false) n i
+  pub through : (e : Row R) → Earlier (λ c. get_or xs c e) (length xs) → Through k (λ c. get_or xs c e) (λ c. get_or ys c e) (λ c. get_or ds c false) (λ c. get_or es c false) (length xs) i
 
-pub going_none : {R V : Type 0} (k : Domain R V) (xs : List (Row R)) (ds : List Bool) (n : ℕ) → 0 < n → Going k xs xs ds ds n n
-going_none k xs ds n some = record {
+pub going_none : {R V : Type 0} (k : Domain R V) (xs : List (Row R)) (ds : List Bool) → 0 < length xs → Going k xs xs ds ds (length xs)
+going_none k xs ds some = record {
   some = some;
-  size = refl;
   kept = λ e c. record { parent = refl; role = refl; lower = refl; atoms = refl; restriction = refl };
-  past = λ e c l. refl;
   ahead = λ e c l. refl;
   through = λ e earlier. record { closes = λ c l u. absurd (omega arith); given = λ c h. h; marked = λ c l u. absurd (omega arith); marks = λ b h. inl h };
 }
 
 -- One turn of the loop: row j - 1 becomes `after`.
-module _ {R V : Type 0} (k : Domain R V) (xs ys : List (Row R)) (ds es gs : List Bool) (n j : ℕ) (row after : Row R)
-    (go : Going k xs ys ds es n j) (more : 1 < j) (most : j ≤ n) (fits : n ≤ length ys) (read : row ≡ get_or ys (j - 1) row)
+module _ {R V : Type 0} (k : Domain R V) (xs ys : List (Row R)) (ds es gs : List Bool) (j : ℕ) (row after : Row R)
+    (go : Going k xs ys ds es j) (size : length ys ≡ length xs) (more : 1 < j) (most : j ≤ length xs) (read : row ≡ get_or ys (j - 1) row)
     (closes : Closes k row (get_or es (j - 1) false) after)
-    (marks : ((gs ≡ set es after.parent true) × (after.parent < length es) × Over after.lower after.upper) ⊎ ((gs ≡ es) × (after.parent < n → Over after.lower after.upper → ⊥))) where
+    (marks : ((gs ≡ set es after.parent true) × (after.parent < length es) × Over after.lower after.upper) ⊎ ((gs ≡ es) × (after.parent < length xs → Over after.lower after.upper → ⊥))) where
   flags : (c : ℕ) → (c ≡ after.parent → ⊥) → get_or gs c false ≡ get_or es c false
   flags c ne = ⊎_elim
       (λ h. ap (λ x. get_or x c false) h.0 ∙ get_or-set_other es after.parent c true false ne)
       (λ h. ap (λ x. get_or x c false) h.0)
       marks
 
-  raised : after.parent < n → Raised after (λ c. get_or es c false) (λ c. get_or gs c false) after.parent
+  raised : after.parent < length xs → Raised after (λ c. get_or es c false) (λ c. get_or gs c false) after.parent
   raised l = ⊎_elim
       (λ h. inl (h.2, ap (λ x. get_or x after.parent false) h.0 ∙ get_or-set_same es after.parent true false h.1))
       (λ h. inr (h.1 l, ap (λ x. get_or x after.parent false) h.0))
@@ -291,22 +287,20 @@ module _ {R V : Type 0} (k : Domain R V) (xs ys : List (Row R)) (ds es gs : List
   hangs : (e : Row R) → after.parent ≡ (get_or xs (j - 1) e).parent
   hangs e = closes.kept.parent ∙ ap (λ x. x.parent) (it e)
 
-  rises : (e : Row R) → after.parent < n → Raised (get_or (set ys (j - 1) after) (j - 1) e) (λ c. get_or es c false) (λ c. get_or gs c false) (get_or xs (j - 1) e).parent
+  rises : (e : Row R) → after.parent < length xs → Raised (get_or (set ys (j - 1) after) (j - 1) e) (λ c. get_or es c false) (λ c. get_or gs c false) (get_or xs (j - 1) e).parent
   rises e l =
       subst (λ p. Raised (get_or (set ys (j - 1) after) (j - 1) e) (λ c. get_or es c false) (λ c. get_or gs c false) p) (hangs e)
       (subst (λ u. Raised u (λ c. get_or es c false) (λ c. get_or gs c false) after.parent) (sym (new e)) (raised l))
 
-  pub going_more : Going k xs (set ys (j - 1) after) ds gs n (j - 1)
+  pub going_more : Going k xs (set ys (j - 1) after) ds gs (j - 1)
   going_more = record {
     some = omega arith;
-    size = length-set ys (j - 1) after ∙ go.size;
     kept = kept_more;
-    past = λ e c l. other e c (λ p. omega arith) ∙ go.past e c l;
     ahead = λ e c l. other e c (λ p. omega arith) ∙ go.ahead e c (omega arith);
     through = λ e earlier.
         let up = earlier (j - 1) (omega arith) (omega arith) in
         through_more k (λ c. get_or xs c e) (λ c. get_or ys c e) (λ c. get_or (set ys (j - 1) after) c e) (λ c. get_or ds c false) (λ c. get_or es c false) (λ c. get_or gs c false)
-        n (j - 1) j (omega arith) earlier (omega arith) (omega arith) (go.through e earlier)
+        (length xs) (j - 1) j (omega arith) earlier (omega arith) (omega arith) (go.through e earlier)
         (subst (λ x. Closes k (get_or xs (j - 1) e) (get_or es (j - 1) false) x) (sym (new e)) (subst (λ x. Closes k x (get_or es (j - 1) false) after) (it e) closes))
         (other e)
         (λ c ne. flags c (λ p. ne (p ∙ hangs e)))
@@ -314,19 +308,19 @@ module _ {R V : Type 0} (k : Domain R V) (xs ys : List (Row R)) (ds es gs : List
   }
 
 -- The end of the loop: r tells whether row 0 is bare.
-module _ {R V : Type 0} (k : Domain R V) (xs ys : List (Row R)) (ds es : List Bool) (n i : ℕ) (d : Row R) (r : Bool)
-    (go : Going k xs ys ds es n i) (last : i ≤ 1) (some : 0 < length ys) (tells : Decides r (Bare k (get_or ys 0 d) (get_or es 0 false))) where
+module _ {R V : Type 0} (k : Domain R V) (xs ys : List (Row R)) (ds es : List Bool) (i : ℕ) (d : Row R) (r : Bool)
+    (go : Going k xs ys ds es i) (size : length ys ≡ length xs) (last : i ≤ 1) (some : 0 < length ys) (tells : Decides r (Bare k (get_or ys 0 d) (get_or es 0 false))) where
   same : (e : Row R) → get_or ys 0 e ≡ get_or xs 0 e
   same e = go.ahead e 0 go.some
 
   top : (e : Row R) → get_or ys 0 d ≡ get_or xs 0 e
   top e = get_or_default ys 0 d e some ∙ same e
 
-  module _ (e : Row R) (f : List ℕ → Label V) (w : List ℕ → Bool) (laid : Ready k f w (λ c. get_or xs c e) n (λ c. get_or ds c false)) where
-    thr : Through k (λ c. get_or xs c e) (λ c. get_or ys c e) (λ c. get_or ds c false) (λ c. get_or es c false) n 1
+  module _ (e : Row R) (f : List ℕ → Label V) (w : List ℕ → Bool) (laid : Ready k f w (λ c. get_or xs c e) (length xs) (λ c. get_or ds c false)) where
+    thr : Through k (λ c. get_or xs c e) (λ c. get_or ys c e) (λ c. get_or ds c false) (λ c. get_or es c false) (length xs) 1
     thr =
         let q : i ≡ 1 = omega (arith, go.some) in
-        subst (λ x. Through k (λ c. get_or xs c e) (λ c. get_or ys c e) (λ c. get_or ds c false) (λ c. get_or es c false) n x) q (go.through e laid.placed.parents)
+        subst (λ x. Through k (λ c. get_or xs c e) (λ c. get_or ys c e) (λ c. get_or ds c false) (λ c. get_or es c false) (length xs) x) q (go.through e laid.placed.parents)
 
     bare : r ≡ true → Bare k (get_or xs 0 e) (get_or es 0 false)
     bare h = subst (λ x. Bare k x (get_or es 0 false)) (top e) (tells.0 h)
@@ -334,13 +328,13 @@ module _ {R V : Type 0} (k : Domain R V) (xs ys : List (Row R)) (ds es : List Bo
     lives : r ≡ false → Bare k (get_or xs 0 e) (get_or es 0 false) → ⊥
     lives h x = not_from_Decides r tells h (subst (λ x. Bare k x (get_or es 0 false)) (sym (top e)) x)
 
-    comes : Comes k f w (λ c. get_or ys c e) n r
+    comes : Comes k f w (λ c. get_or ys c e) (length xs) r
     comes = record {
-      dead = λ h. bare_dies k f w _ _ _ _ n laid thr 0 [] laid.placed.some root (bare h);
-      live = λ h x. lives h (dies_bare k f w _ _ _ _ n laid thr 0 [] laid.placed.some root x);
-      placed = still_placed k f w _ _ _ _ n laid thr (go.kept e);
-      settled = λ h. is_settled k f w _ _ _ _ n laid thr (go.kept e) (ap (λ x. x.upper) (same e)) (lives h);
+      dead = λ h. bare_dies k f w _ _ _ _ (length xs) laid thr 0 [] laid.placed.some root (bare h);
+      live = λ h x. lives h (dies_bare k f w _ _ _ _ (length xs) laid thr 0 [] laid.placed.some root x);
+      placed = still_placed k f w _ _ _ _ (length xs) laid thr (go.kept e);
+      settled = λ h. is_settled k f w _ _ _ _ (length xs) laid thr (go.kept e) (ap (λ x. x.upper) (same e)) (lives h);
     }
 
-  pub going_all : Settles k xs n ds r ys
-  going_all = record { size = go.size; kept = go.kept; past = go.past; comes = comes }
+  pub going_all : Settles k xs (length xs) ds r ys
+  going_all = record { size = size; kept = go.kept; past = λ e c l. get_or_past ys c e (omega arith) ∙ sym (get_or_past xs c e l); comes = comes }

@@ -116,7 +116,7 @@ module _ {R : Type 0} (T : ℕ → Row R) where
         ap (λ b. b || is_zero (T (suc c)).upper) (lid_same c (T (suc c)).parent (T (suc c)).parent (omega arith) (omega arith) (omega arith))
 
     -- what a kept row hangs from is kept
-    pub keep_up : (c : ℕ) → 0 < c → c < n → keep c ≡ true → keep (T c).parent ≡ true
+    keep_up : (c : ℕ) → 0 < c → c < n → keep c ≡ true → keep (T c).parent ≡ true
     keep_up c z l h = go (T c).parent refl
       where
         open_parent : stop (T c).parent ≡ false
