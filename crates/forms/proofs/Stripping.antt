@@ -1,7 +1,8 @@
 -- The rows that are not below an upper number 0, one after another, are the finished form. Assumes nothing.
-use Rattle.std.proofs.Common.{◌≡◌, ℕ, zero, suc, ◌<◌, ◌≤◌, Bool, true, false, cond, not, ◌||◌, ◌⊎◌, List, [], ◌∷◌, ◌++◌, length, Some, None, Option, sym, refl, ap, ◌∙◌, subst, inl, inr, ⊎_elim, append_assoc, append-nil, arith}
+use Rattle.std.proofs.Common.{◌≡◌, ℕ, zero, suc, ◌<◌, ◌≤◌, Bool, true, false, not, ◌||◌, List, [], ◌∷◌, ◌++◌, length, Some, None, Option, sym, refl, ap, ◌∙◌, ◌+◌, subst, inl, inr, ⊎_elim, add-one, append_assoc, append-nil, arith}
 use Rattle.std.proofs.lemmas.Bool.{both_ways, cases_Bool, cases_lt, cases_order, eqb-true, or_cases, or_parts, or_right, not-true, not_from_false, not_from_true, not-false}
 use Rattle.kinds.specs.Domain.{Domain}
+use Rattle.concepts.specs.Interpretations.{how_many, one_if}
 use Rattle.masks.specs.Masks.{has}
 use Rattle.forms.specs.Labels.{Label}
 use Rattle.rows.specs.Tables.{then_role, Topmost, Stands, root, below}
@@ -23,27 +24,24 @@ is_zero_by u h = ap is_zero h
 -- Counting the numbers that are kept.
 module _ (keep : ℕ → Bool) where
   -- how many kept numbers come before this one
-  pub new : ℕ → ℕ
-  new zero = 0
-  new (suc c) = cond (keep c) (suc (new c)) (new c)
+  abbrev pub new : ℕ → ℕ
+  new c = how_many keep c
 
   pub new_zero : new 0 ≡ 0
-  unfolding new
+  unfolding how_many
   new_zero = refl
 
   pub new_more : (c : ℕ) → keep c ≡ true → new (suc c) ≡ suc (new c)
-  unfolding new
-  new_more c h = ap (λ b. cond b (suc (new c)) (new c)) h
+  unfolding how_many
+  new_more c h = ap (λ b. new c + one_if b) h ∙ add-one (new c)
 
   pub new_same : (c : ℕ) → keep c ≡ false → new (suc c) ≡ new c
-  unfolding new
-  new_same c h = ap (λ b. cond b (suc (new c)) (new c)) h
-
-  new_steps : (c : ℕ) → (new (suc c) ≡ suc (new c)) ⊎ (new (suc c) ≡ new c)
-  new_steps c = ⊎_elim (λ h. inl (new_more c h)) (λ h. inr (new_same c h)) (cases_Bool (keep c))
+  unfolding how_many
+  new_same c h = ap (λ b. new c + one_if b) h ∙ omega arith
 
   new_rises : (c : ℕ) → new c ≤ new (suc c)
-  new_rises c = ⊎_elim (λ e. omega (arith, e)) (λ e. omega (arith, e)) (new_steps c)
+  unfolding how_many
+  new_rises c = let more : new (suc c) ≡ new c + one_if (keep c) = refl in omega arith
 
   new_mono : (b c : ℕ) → b ≤ c → new b ≤ new c
   new_mono b zero l = let e : b ≡ 0 = omega arith in omega (arith, ap new e)

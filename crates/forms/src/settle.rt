@@ -35,7 +35,7 @@ fn closed<K: Kind>(row: Row<K>, dead: bool) -> Row<K>
 }
 
 // Settles the rows, each before the row that it hangs from, and says whether nothing can stand at row 0.
-// At the start `dead` has the rows where NOTHING is written.
+// At the start `dead` has the rows where NOTHING is written, which a row itself does not hold.
 pub(crate) fn settle<K: Kind>(rows: &mut [Row<K>], dead: &mut [bool; MOST_ROWS]) -> bool
     requires some { 0 < length rows.old }
     requires few { length rows.old ≤ 128 }
