@@ -1,3 +1,4 @@
+pub mod Ops
 pub mod Refusals
 pub mod Concepts
 pub mod Interpretations

@@ -4,4 +4,5 @@
 pub mod description;
 pub mod facts;
 pub mod node;
+pub mod op;
 pub mod refusal;

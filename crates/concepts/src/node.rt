@@ -1,27 +1,13 @@
 // Nodes of a description as they are sent: raw records that may hold anything.
+ghost use Rattle.std.specs.Prelude.{◌≡◌, ◌<◌, IfSome, IfNone};
+ghost use Rattle.concepts.specs.Ops.{number_of};
 
-// The ops, and the fields that each uses.
-pub const THING: u8 = 0;
-
-pub const NOTHING: u8 = 1;
-// The atom `which`.
-pub const PRIM: u8 = 2;
-// The restriction.
-pub const WITHIN: u8 = 3;
-// The operands `left` and `right`.
-pub const AND: u8 = 4;
-// The role `which`, and the operand `left`.
-pub const ALL: u8 = 5;
-// The count, and the role `which`.
-pub const AT_LEAST: u8 = 6;
-
-pub const AT_MOST: u8 = 7;
-// The place `which`.
-pub const ENTRY: u8 = 8;
+use crate::op::Op;
 
 // A node. Its op says which of the other fields are used; the others may hold anything.
-#[derive(Clone, Copy)]
+#[derive(Clone, Copy, Debug, PartialEq, Eq)]
 pub struct Node<K> {
+    // The number of an op, or of none.
     pub op: u8,
     // Which role, atom or place.
     pub which: u8,
@@ -30,4 +16,14 @@ pub struct Node<K> {
     pub left: u8,
     pub right: u8,
     pub restriction: K,
+}
+
+impl<K> Node<K> {
+    // The op, if the node has the number of one.
+    pub fn op(&self) -> Option<Op>
+        ensures known { IfSome result (λ op. number_of op ≡ self.now.op) }
+        ensures unknown { IfNone result (8 < self.now.op) }
+    {
+        Op::try_from(self.op).ok()
+    }
 }

@@ -5,7 +5,8 @@ ghost use Rattle.concepts.specs.Checks.{bad_field, bad_operand, bad_entry, first
 ghost use Rattle.concepts.specs.Weights.{node_weight, weight};
 
 use super::Description;
-use crate::node::{ALL, AND, AT_LEAST, AT_MOST, ENTRY, Node, PRIM};
+use crate::node::Node;
+use crate::op::Op;
 use crate::refusal::Refusal;
 
 const MOST_NODES: usize = 128;
@@ -30,10 +31,10 @@ fn at<T: Copy>(items: &[T], i: u8, past: T) -> T
 fn field_is_bad<K>(node: &Node<K>) -> bool
     ensures { result ≡ bad_field node.now }
 {
-    match node.op {
-        PRIM => node.which > LAST_ATOM,
-        ALL => node.which > LAST_ROLE,
-        AT_LEAST | AT_MOST => node.which > LAST_ROLE || node.count > MOST_COUNT,
+    match node.op() {
+        Some(Op::Prim) => node.which > LAST_ATOM,
+        Some(Op::All) => node.which > LAST_ROLE,
+        Some(Op::AtLeast | Op::AtMost) => node.which > LAST_ROLE || node.count > MOST_COUNT,
         _ => false,
     }
 }
@@ -42,9 +43,9 @@ fn field_is_bad<K>(node: &Node<K>) -> bool
 fn operand_is_bad<K>(node: &Node<K>, i: u8) -> bool
     ensures { result ≡ bad_operand i node.now }
 {
-    match node.op {
-        AND => node.left >= i || node.right >= i,
-        ALL => node.left >= i,
+    match node.op() {
+        Some(Op::And) => node.left >= i || node.right >= i,
+        Some(Op::All) => node.left >= i,
         _ => false,
     }
 }
@@ -53,14 +54,14 @@ fn operand_is_bad<K>(node: &Node<K>, i: u8) -> bool
 fn entry_is_bad<K>(node: &Node<K>, held: &[Option<u8>]) -> bool
     ensures { result ≡ bad_entry held.now node.now }
 {
-    node.op == ENTRY && at(held, node.which, None).is_none()
+    node.op() == Some(Op::Entry) && at(held, node.which, None).is_none()
 }
 
 // The first fault of the node numbered `i`.
 fn fault<K>(node: &Node<K>, i: u8, held: &[Option<u8>]) -> Option<Refusal>
     ensures { result ≡ first (node_checks held.now i node.now) }
 {
-    if node.op > ENTRY {
+    if node.op().is_none() {
         Some(Refusal::Op(i))
     } else if field_is_bad(node) {
         Some(Refusal::Field(i))
@@ -91,14 +92,14 @@ fn first_fault<K>(nodes: &[Node<K>], held: &[Option<u8>]) -> Option<Refusal>
 fn weight_of<K>(node: &Node<K>, below: &[u8], held: &[Option<u8>]) -> u8
     ensures { result ≡ min 255 (node_weight held.now below.now node.now) }
 {
-    match node.op {
-        AND => {
+    match node.op() {
+        Some(Op::And) => {
             let both = at(below, node.left, 0).saturating_add(at(below, node.right, 0));
             both.saturating_add(1)
         }
-        ALL => at(below, node.left, 0).saturating_add(1),
-        AT_LEAST | AT_MOST => 2,
-        ENTRY => at(held, node.which, None).unwrap_or(0),
+        Some(Op::All) => at(below, node.left, 0).saturating_add(1),
+        Some(Op::AtLeast | Op::AtMost) => 2,
+        Some(Op::Entry) => at(held, node.which, None).unwrap_or(0),
         _ => 1,
     }
 }
