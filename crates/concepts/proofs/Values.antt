@@ -1,13 +1,9 @@
 -- The values of the nodes of a table: one for each, and those of lower nodes stay as they are.
 use Rattle.std.proofs.Common.{◌≡◌, ℕ, ◌+◌, ◌<◌, ◌≤◌, List, [], ◌∷◌, ◌++◌, length, get_or, take, drop, fold, sym, refl, ap, ◌∙◌, arith, length-append}
 use Rattle.std.proofs.lemmas.List.{get_or_append_left, get_or_push, length-take-le, take-append-drop}
-use Rattle.std.proofs.lemmas.List.Sums.{fold_more}
+use Rattle.std.proofs.lemmas.List.Sums.{fold-append, fold_more}
 use Rattle.concepts.specs.declared.node.Node.{Node}
 use Rattle.concepts.specs.Tables.{values}
-
-folded_append : {X Y : Type 0} (f : Y → X → Y) (a : Y) (xs ys : List X) → fold f a (xs ++ ys) ≡ fold f (fold f a xs) ys
-folded_append f a [] ys = refl
-folded_append f a (x ∷ xs) ys = folded_append f (f a x) xs ys
 
 module _ {K A : Type 0} (step : List A → Node K → A) where
   -- one more value
@@ -40,7 +36,7 @@ module _ {K A : Type 0} (step : List A → Node K → A) where
       → get_or (values step nodes) k d ≡ get_or (values step (take i nodes)) k d
   values_below nodes i k d l h =
       ap (λ ns. get_or (values step ns) k d) (sym (take-append-drop i nodes))
-      ∙ (ap (λ vs. get_or vs k d) (folded_append more [] (take i nodes) (drop i nodes))
+      ∙ (ap (λ vs. get_or vs k d) (fold-append more [] (take i nodes) (drop i nodes))
       ∙ folded_keeps (values step (take i nodes)) (drop i nodes) k d (omega (arith, length_values_take nodes i h)))
 
   -- the value of node i

@@ -1,37 +1,29 @@
 -- What the checks come to, and what the nodes of a table that passes weigh and stand for.
-use Rattle.std.proofs.Common.{◌≡◌, ℕ, zero, suc, ◌+◌, ◌-◌, ◌<◌, ◌≤◌, Bool, true, false, cond, not, eqb, ltb, List, [], ◌∷◌, ◌++◌, length, get_or, take, is_some, Some, None, Option, sym, refl, ap, ◌∙◌, inl, inr, zero-add, arith}
-use Rattle.std.proofs.lemmas.Bool.{false≢true, cases_lt, ltb-false, le-ltb, or_parts, not-true}
+use Rattle.std.proofs.Common.{◌≡◌, ℕ, zero, suc, ◌+◌, ◌-◌, ◌<◌, ◌≤◌, Bool, true, false, cond, not, List, [], ◌∷◌, ◌++◌, length, get_or, take, is_some, Some, None, Option, sym, refl, ap, ◌∙◌, inl, inr, zero-add, arith}
+use Rattle.std.proofs.lemmas.Bool.{false≢true, cases_lt}
 use Rattle.std.proofs.lemmas.Bool.Decides.{nat_tests}
 use Rattle.concepts.specs.declared.node.Node.{Node}
 use Rattle.concepts.specs.declared.refusal.Refusal.{Refusal}
-use Rattle.concepts.specs.declared.refusal.Refusal.TheVariants.{Length, Op, Field, Operand, Entry, Weight}
+use Rattle.concepts.specs.declared.refusal.Refusal.TheVariants.{Length}
 use Rattle.concepts.specs.Concepts.{Concept, thing}
 use Rattle.concepts.specs.Tables.{values, concept, concept_of, is_entry}
 use Rattle.concepts.specs.Weights.{weight, node_weight}
-use Rattle.concepts.specs.Checks.{Check, first, node_checks, checks_from, bad_op, bad_field, bad_operand, bad_entry, bad_length, bad_weight, refusal, passes}
+use Rattle.concepts.specs.Checks.{Check, first, node_checks, checks_from, bad_op, bad_field, bad_operand, bad_entry, bad_length, refusal, passes}
 use Rattle.concepts.specs.WellFormed.{At, Earliest, Faultless, WellFormed, size}
 use Rattle.concepts.specs.Theorems.{TableFacts}
-use Rattle.concepts.proofs.Firsts.{first_past}
+use Rattle.concepts.proofs.Firsts.{first_past, weight_check}
 use Rattle.concepts.proofs.Values.{values_below, value_at}
-
-nothing_found : {X : Type 0} (o : Option X) → is_some o ≡ false → o ≡ None
-nothing_found None h = refl
-nothing_found (Some x) h = absurd (false≢true (sym h))
 
 -- the first check, and then the others
 first_split : (c : Check) (cs : List Check) → first (c ∷ cs) ≡ None → (c.0 ≡ false) × (first cs ≡ None)
-first_split c cs h =
-    elim c.0
-    as (λ b. cond b (Some c.1) (first cs) ≡ None → (b ≡ false) × (first cs ≡ None))
-    [ true ↦ λ e. absurd (false≢true (sym (ap is_some e))) | false ↦ λ e. (refl, e) ]
-    h
+first_split c cs h = grind arith
 
 first_join : (c : Check) (cs : List Check) → c.0 ≡ false → first cs ≡ None → first (c ∷ cs) ≡ None
 first_join c cs b h = rw b h
 
 none_of : (cs : List Check) → first cs ≡ None → (k : ℕ) (c : Check) → At cs k c → c.0 ≡ false
 none_of [] h k c at = absurd (omega (arith, at.0))
-none_of (x ∷ xs) h zero c at = ap (λ y. y.0) at.1 ∙ (first_split x xs h).0
+none_of (x ∷ xs) h zero c at = grind arith
 none_of (x ∷ xs) h (suc k) c at = none_of xs (first_split x xs h).1 k c (omega (arith, at.0), at.1)
 
 only_none_of : (cs : List Check) → ((k : ℕ) (c : Check) → At cs k c → c.0 ≡ false) → first cs ≡ None
@@ -70,13 +62,10 @@ earliest_of (x ∷ xs) e h = go x.0 refl h (earliest_of xs e)
 -- two lists of checks, one after the other
 first_halves : (cs ds : List Check) → first (cs ++ ds) ≡ None → (first cs ≡ None) × (first ds ≡ None)
 first_halves [] ds h = (refl, h)
-first_halves (c ∷ cs) ds h =
-    let s = first_split c (cs ++ ds) h in
-    let t = first_halves cs ds s.1 in
-    (first_join c cs s.0 t.0, t.1)
+first_halves (c ∷ cs) ds h = grind (arith, first_halves cs ds)
 
 first_both : (cs ds : List Check) → first cs ≡ None → first ds ≡ None → first (cs ++ ds) ≡ None
-first_both cs ds h k = first_past cs ds (ap is_some h) ∙ k
+first_both cs ds h k = first_past cs ds h ∙ k
 
 module _ {K : Type 0} (held : List (Option ℕ)) where
   -- no check of node i declines it
@@ -87,23 +76,7 @@ module _ {K : Type 0} (held : List (Option ℕ)) where
     pub entry : bad_entry held n ≡ false
 
   clear : (i : ℕ) (n : Node K) → first (node_checks held i n) ≡ None → Clear i n
-  clear i n h = record {
-    op = none_of (node_checks held i n) h 0 (bad_op n, Op i) (omega arith, refl);
-    field = none_of (node_checks held i n) h 1 (bad_field n, Field i) (omega arith, refl);
-    operand = none_of (node_checks held i n) h 2 (bad_operand i n, Operand i) (omega arith, refl);
-    entry = none_of (node_checks held i n) h 3 (bad_entry held n, Entry i) (omega arith, refl);
-  }
-
-  unclear : (i : ℕ) (n : Node K) → Clear i n → first (node_checks held i n) ≡ None
-  unclear i n w =
-      let last : List Check = (bad_entry held n, Entry i) ∷ [] in
-      let operands : List Check = (bad_operand i n, Operand i) ∷ last in
-      let fields : List Check = (bad_field n, Field i) ∷ operands in
-      first_join (bad_op n, Op i) fields w.op (
-      first_join (bad_field n, Field i) operands w.field (
-      first_join (bad_operand i n, Operand i) last w.operand (first_join (bad_entry held n, Entry i) [] w.entry refl)
-      )
-      )
+  clear i n h = record { op = grind arith; field = grind arith; operand = grind arith; entry = grind arith }
 
   -- the nodes are numbered from i
   clear_from : (i : ℕ) (nodes : List (Node K)) → first (checks_from held i nodes) ≡ None → (j : ℕ) (n : Node K) → At nodes j n → Clear (i + j) n
@@ -121,37 +94,29 @@ module _ {K : Type 0} (held : List (Option ℕ)) where
   unclear_from i [] h = refl
   unclear_from i (x ∷ xs) h =
       let q : i + 0 ≡ i = omega arith in
-      first_both (node_checks held i x) (checks_from held (i + 1) xs)
-      (unclear i x (rw q at (h 0 x (omega arith, refl))))
+      let here : Clear i x = rw q at (h 0 x (omega arith, refl)) in
+      first_both (node_checks held i x) (checks_from held (i + 1) xs) (grind arith)
       (unclear_from (i + 1) xs (λ j n at. let p : i + suc j ≡ i + 1 + j = omega arith in rw p at (h (suc j) n (omega (arith, at.0), at.1))))
 
-  -- the check of the weight
-  weight_check : List (Node K) → List Check
-  weight_check nodes = (bad_weight held nodes, Weight) ∷ []
-
   pub well_formed_of : (nodes : List (Node K)) → passes held nodes ≡ true → WellFormed held nodes
-  unfolding weight_check
   well_formed_of nodes h =
-      let none : refusal held nodes ≡ None = nothing_found (refusal held nodes) (not-true (is_some (refusal held nodes)) h) in
-      let s = first_split (bad_length nodes, Length) (checks_from held 0 nodes ++ weight_check nodes) none in
-      let t = first_halves (checks_from held 0 nodes) (weight_check nodes) s.1 in
-      let u = first_split (bad_weight held nodes, Weight) [] t.1 in
-      let len = or_parts (eqb (length nodes) 0) (ltb 128 (length nodes)) s.0 in
+      let none : refusal held nodes ≡ None = grind arith in
+      let s = first_split (bad_length nodes, Length) (checks_from held 0 nodes ++ weight_check held nodes) none in
+      let t = first_halves (checks_from held 0 nodes) (weight_check held nodes) s.1 in
       let each : (j : ℕ) (n : Node K) → At nodes j n → Clear j n = λ j n at. rw zero-add at (clear_from 0 nodes t.0 j n at) in
       record {
-        some = let e = len.0 in grind (arith, nat_tests);
-        few = ltb-false 128 (length nodes) len.1;
+        some = grind (arith, nat_tests);
+        few = grind (arith, nat_tests);
         faultless = record {
           ops = λ i n at. (each i n at).op;
           fields = λ i n at. (each i n at).field;
           operands = λ i n at. (each i n at).operand;
           entries = λ i n at. (each i n at).entry;
         };
-        light = ltb-false 128 (weight held nodes) u.0;
+        light = grind (arith, nat_tests);
       }
 
   pub passing_of : (nodes : List (Node K)) → WellFormed held nodes → passes held nodes ≡ true
-  unfolding weight_check
   passing_of nodes w =
       let some = w.some in
       let few = w.few in
@@ -159,10 +124,11 @@ module _ {K : Type 0} (held : List (Option ℕ)) where
       let len : bad_length nodes ≡ false = grind (arith, nat_tests) in
       let each : (j : ℕ) (n : Node K) → At nodes j n → Clear (0 + j) n = λ j n at.
       rw zero-add record { op = f.ops j n at; field = f.fields j n at; operand = f.operands j n at; entry = f.entries j n at } in
-      let light : first (weight_check nodes) ≡ None = first_join (bad_weight held nodes, Weight) [] (le-ltb 128 (weight held nodes) w.light) refl in
+      let light = w.light in
+      let light_enough : first (weight_check held nodes) ≡ None = grind (arith, nat_tests) in
       let none : refusal held nodes ≡ None =
-      first_join (bad_length nodes, Length) (checks_from held 0 nodes ++ weight_check nodes) len
-      (first_both (checks_from held 0 nodes) (weight_check nodes) (unclear_from 0 nodes each) light) in
+      first_join (bad_length nodes, Length) (checks_from held 0 nodes ++ weight_check held nodes) len
+      (first_both (checks_from held 0 nodes) (weight_check held nodes) (unclear_from 0 nodes each) light_enough) in
       ap (λ r. not (is_some r)) none
 
 -- what stands at a place within a list

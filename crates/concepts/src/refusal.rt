@@ -3,13 +3,13 @@ ghost use Rattle.std.specs.Prelude.{◌≡◌};
 ghost use Rattle.concepts.specs.Refusals.{number_of, detail_of};
 
 // One of the two places that a call names.
-#[derive(Clone, Copy)]
+#[derive(Clone, Copy, Debug, PartialEq, Eq)]
 pub enum Named {
     First,
     Second,
 }
 
-#[derive(Clone, Copy)]
+#[derive(Clone, Copy, Debug, PartialEq, Eq)]
 pub enum Refusal {
     // The place is not in the catalogue, or is held.
     Place,
@@ -39,6 +39,7 @@ pub enum Refusal {
     Card,
 }
 
+// Two numbers are reported of a refusal, so a conversion into one would not say which.
 impl Refusal {
     // The number by which it is reported.
     pub fn number(&self) -> u8
@@ -66,10 +67,10 @@ impl Refusal {
         ensures value { result ≡ detail_of self.now }
     {
         match self {
-            Refusal::Op(node) => u16::from(*node),
-            Refusal::Field(node) => u16::from(*node),
-            Refusal::Operand(node) => u16::from(*node),
-            Refusal::Entry(node) => u16::from(*node),
+            Refusal::Op(node)
+            | Refusal::Field(node)
+            | Refusal::Operand(node)
+            | Refusal::Entry(node) => u16::from(*node),
             Refusal::Same(place) => u16::from(*place),
             Refusal::NotHeld(Named::First) => 1,
             Refusal::NotHeld(Named::Second) => 2,

@@ -1,5 +1,5 @@
 use Rattle.std.proofs.Common.{refl, arith, length-set}
-use Rattle.concepts.proofs.Saturation.{zeros, saturated_more, saturated_all}
+use Rattle.concepts.proofs.Saturation.{zeros, saturated_more}
 use Rattle.concepts.proofs.description.checks.weigh.Goals as goal
 
 pub loop-i-init : goal.loop-i-init
@@ -10,6 +10,3 @@ loop-i-preserved g c = (
   simp length-set c.loop-i.invariant.0,
   saturated_more _ _ _ _ _ c.index-nodes-i.result c.loop-i.invariant.1 c.loop-i-test.true (omega arith) c.index-nodes-i.is c.weight_of.ensures,
 )
-
-pub returns : goal.returns
-returns g c = saturated_all _ _ _ _ c.loop-i.invariant.1 c.loop-i-test.false
