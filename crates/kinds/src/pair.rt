@@ -3,7 +3,7 @@ ghost use Rattle.kinds.specs.Pairs.{pair_domain};
 
 use crate::kind::Kind;
 
-// A reading of a pair: one of each half.
+// A reading of a pair: one of each half. It is no restriction, so it is no `Pair`.
 #[derive(Clone, Copy)]
 pub struct Both<V, W> {
     pub first: V,

@@ -1,5 +1,5 @@
 -- Sets of numbers below 64 by the bits of a number. Assumes nothing.
-use Rattle.std.proofs.Common.{◌≡◌, ℕ, ◌-◌, ◌*◌, ◌%◌, ◌^◌, ◌<◌, Bool, true, false, not, ◌&&◌, ◌||◌, eqb, ltb, Decides, w64, arith}
+use Rattle.std.proofs.Common.{◌≡◌, ℕ, ◌-◌, ◌*◌, ◌%◌, ◌^◌, ◌<◌, true, false, not, ◌&&◌, ◌||◌, eqb, ltb, Decides, w64, arith}
 use lib.Bits.{bit_and, bit_or}
 use lib.Count.{count_trailing_zeros}
 use Rattle.std.proofs.lemmas.Nat.{one_shl}
@@ -49,12 +49,4 @@ pub has_none : (n : ℕ) → n < 2 ^ 64 → Decides (eqb n 0) ((k : ℕ) → has
 has_none n p = (
   λ e k. let z = has_zero k in grind (arith, nat_tests),
   λ all. let none = all (count_trailing_zeros 64 n) in grind (arith, nat_tests, has_lowest n p),
-)
-
--- nothing is left of a without b just where b has all of a
-pub subset_when : (a b r : ℕ) (t : Bool) → ((k : ℕ) → has r k ≡ (has a k && not (has b k))) → Decides t ((k : ℕ) → has r k ≡ false)
-    → Decides t ((k : ℕ) → has a k ≡ true → has b k ≡ true)
-subset_when a b r t left none = (
-  λ e k h. let here = left k in let gone = none.0 e k in grind (arith, nat_tests),
-  λ all. none.1 (λ k. let here = left k in let within = all k in grind (arith, nat_tests)),
 )

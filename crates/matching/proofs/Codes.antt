@@ -5,16 +5,9 @@ use Rattle.std.proofs.lemmas.List.{get_or_default}
 use Rattle.std.proofs.lemmas.List.Folds.{list_any-append}
 use Rattle.std.proofs.lemmas.Bool.{both_ways, or_cases, or_left, or_right, and_parts, and_from, eqb-true, eq-eqb, lt-ltb, cases_lt}
 use Rattle.masks.specs.Masks.{has, Single, Joined}
-use Rattle.masks.proofs.Digits.{has_zero}
 use Rattle.kinds.specs.declared.choice.Choice.{Choice}
 use Rattle.matching.specs.Texts.{Whole, Apart}
 use Rattle.matching.specs.Words.{IsCode, Writes, Listed, Collected, Codes}
-
-pub listed_none : (ps : List (Bor (List ℕ))) → Listed ps 0 0
-listed_none ps = record {
-  each = λ i l. absurd (omega arith);
-  set = λ k. (λ t. absurd (both_ways (has 0 k) (has_zero k) t), λ s. absurd (omega (arith, s.1)));
-}
 
 pub listed_more : (ps : List (Bor (List ℕ))) (n bits one r c : ℕ) (d : Bor (List ℕ)) → n < length ps
     → Listed ps n bits → IsCode (get_or ps n d).now c → Single c one → Joined bits one r → Listed ps (n + 1) r
