@@ -1,9 +1,6 @@
 // The ops of nodes, and the numbers by which they are sent.
 ghost use Rattle.std.specs.Prelude.{◌≡◌};
-ghost use Rattle.concepts.specs.Ops.{Decodes, number_of};
-
-use std::error::Error;
-use std::fmt;
+ghost use Rattle.concepts.specs.Ops.{Decodes, op_number};
 
 // What a node says, and which of its fields it uses.
 #[derive(Clone, Copy, Debug, PartialEq, Eq)]
@@ -51,17 +48,9 @@ impl TryFrom<u8> for Op {
 }
 
 impl From<Op> for u8 {
-    ghost from_gives = { λ op number. number ≡ number_of op };
+    ghost from_gives = { λ op number. number ≡ op_number op };
 
     fn from(op: Op) -> u8 {
         op as u8
     }
 }
-
-impl fmt::Display for UnknownOp {
-    fn fmt<W: fmt::Write>(&self, f: &mut fmt::Formatter<W>) -> fmt::Result {
-        write!(f, "no op has number {}", self.0)
-    }
-}
-
-impl Error for UnknownOp {}

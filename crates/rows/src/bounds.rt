@@ -13,7 +13,7 @@ pub struct Bounds {
 }
 
 impl Bounds {
-    // The numbers of a row, unless the lower one is above the upper one: an error type would say no more.
+    // The numbers of a row, unless the lower one is above the upper one; that is the only reason, and needs no error type.
     pub fn of<K>(row: &Row<K>) -> Option<Bounds>
         ensures answer { Decides (is_some result) (Under row.now.lower row.now.upper) }
         ensures numbers { IfSome result (λ b. (b.lower ≡ row.now.lower) × (b.upper ≡ row.now.upper)) }

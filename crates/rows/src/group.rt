@@ -4,7 +4,8 @@ use crate::hung::Hung;
 // Elements with the same atoms, the same reading and the same fillers.
 #[derive(Clone, Copy)]
 pub struct Group<V> {
-    // The group whose elements have these as fillers, and of which role; 0 and 0 for group 0.
+    // The group whose elements have these as fillers, by its number, since a table is one block of memory; and of which
+    // role. 0 and 0 for group 0.
     pub parent: u8,
     pub role: u8,
     // How many elements.

@@ -7,7 +7,8 @@ pub const MOST_ROWS: usize = 128;
 // What is asked of the elements at one role path, and how many there may be.
 #[derive(Clone, Copy)]
 pub struct Row<K> {
-    // The row that it hangs from, and by which role; 0 and 0 for row 0.
+    // The row that it hangs from, by its number, since a table is one block of memory; and by which role.
+    // 0 and 0 for row 0.
     pub parent: u8,
     pub role: u8,
     // How many fillers at least, and at most; no upper number is no bound.

@@ -5,7 +5,7 @@ ghost use Rattle.concepts.specs.Checks.{bad_field, bad_operand, bad_entry, first
 ghost use Rattle.concepts.specs.Weights.{node_weight, rows_at, weight};
 
 use super::Description;
-use crate::node::Node;
+use crate::node::{LAST_ATOM, LAST_ROLE, MOST_COUNT, Node};
 use crate::op::Op;
 use crate::refusal::Refusal;
 
@@ -13,17 +13,11 @@ const MOST_NODES: usize = 128;
 
 const MOST_WEIGHT: u8 = 128;
 
-const LAST_ROLE: u8 = 15;
-
-const LAST_ATOM: u8 = 63;
-
-const MOST_COUNT: u16 = 999;
-
 // How many rows the entry at the place has, if it is held.
-fn rows_held(held: &[Option<u8>], place: u8) -> Option<u8>
-    ensures { result ≡ rows_at held.now place }
+pub fn rows_held(held: &[Option<u8>], place: u8) -> Option<u8>
+    ensures value { result ≡ rows_at held.now place }
 {
-    held.get(place as usize).copied().flatten()
+    held.get(usize::from(place)).copied().flatten()
 }
 
 // Whether a role, an atom or a count that the node uses is out of range.
@@ -79,7 +73,7 @@ fn check_node<K>(i: u8, node: &Node<K>, held: &[Option<u8>]) -> Result<(), Refus
 fn weight_of<K>(node: &Node<K>, below: &[u8], held: &[Option<u8>]) -> u8
     ensures { result ≡ min 255 (node_weight held.now below.now node.now) }
 {
-    let lower = |i: u8| below.get(i as usize).copied().unwrap_or(0);
+    let lower = |i: u8| below.get(usize::from(i)).copied().unwrap_or(0);
     match node.op() {
         Some(Op::And) => lower(node.left)
             .saturating_add(lower(node.right))
@@ -98,7 +92,7 @@ fn weigh<K>(nodes: &[Node<K>], held: &[Option<u8>]) -> u8
     ensures { result ≡ min 255 (weight held.now nodes.now) }
 {
     let mut weights = [0u8; MOST_NODES];
-    // By index: a weight is made of lower ones in the same array.
+    // An array, since nothing is allocated. By index: a weight is made of lower ones in it.
     for (i, node) in nodes.iter().enumerate() {
         weights[i] = weight_of(node, &weights, held);
     }

@@ -1,5 +1,5 @@
 // The check of rows of any origin.
-ghost use Rattle.std.specs.Prelude.{◌≡◌, ◌<◌, length, is_some, IfSome, Decides};
+ghost use Rattle.std.specs.Prelude.{◌≡◌, ◌<◌, ◌≤◌, length, is_some, IfSome, None as NoBound, Decides};
 ghost use Rattle.std.specs.List.{list_all};
 ghost use Rattle.rows.specs.Numbers.{limited};
 ghost use Rattle.rows.specs.Shapes.{every, precedes, clear, top_fine, later_fine, row_fine, Fine, Shaped};
@@ -8,12 +8,9 @@ ghost use Rattle.rows.specs.Tables.{rows_of};
 use super::Form;
 use crate::bounds::Bounds;
 use crate::row::{MOST_ROWS, Row};
+use concepts::node::{LAST_ROLE, MOST_COUNT};
 
-const LAST_ROLE: u8 = 15;
-
-const MOST_COUNT: u16 = 999;
-
-// Whether `x` belongs below the parent of `y`, and there at a lower role.
+// Whether `x` belongs below the parent of `y`, and there at a lower role: the parents compare the other way round.
 fn comes_first<K>(x: &Row<K>, y: &Row<K>) -> bool
     ensures { result ≡ precedes x.now y.now }
 {
@@ -27,7 +24,8 @@ fn all_come_first<K>(others: &[Row<K>], row: &Row<K>) -> bool
     others.iter().all(|other| comes_first(other, row))
 }
 
-// Whether every row between row `c` and its parent belongs there.
+// Whether every row between row `c` and its parent belongs there. A row is named by its number in the table: whether it
+// may stand hangs on the rows before it, so a type for a row in its place would hold the table as well.
 fn follows<K>(rows: &[Row<K>], c: usize) -> bool
     requires inside { c < length rows.now }
     requires below { (e : Row K) → (rows_of e rows.now c).parent < c }
@@ -108,12 +106,15 @@ impl<'a, K> Form<'a, K> {
         self.rows
     }
 
-    // The numbers of a row, which are in order.
+    // The numbers of a row, which are in order; those of silence where there is no such row.
     pub fn bounds(&self, c: usize) -> Bounds
-        requires { c < length self.now.rows.now }
-        ensures lower { (e : Row K) → result.lower ≡ (rows_of e self.now.rows.now c).lower }
-        ensures upper { (e : Row K) → result.upper ≡ (rows_of e self.now.rows.now c).upper }
+        ensures lower { (e : Row K) → c < length self.now.rows.now → result.lower ≡ (rows_of e self.now.rows.now c).lower }
+        ensures upper { (e : Row K) → c < length self.now.rows.now → result.upper ≡ (rows_of e self.now.rows.now c).upper }
+        ensures past { length self.now.rows.now ≤ c → (result.lower ≡ 0) × (result.upper ≡ NoBound) }
     {
-        Bounds::of_ordered(&self.rows[c])
+        match self.rows.get(c) {
+            Some(row) => Bounds::of_ordered(row),
+            None => Bounds::silent(),
+        }
     }
 }
