@@ -11,6 +11,7 @@ use rows::row::MOST_ROWS;
 pub fn subsumed<K: Kind>(p: &Form<'_, K>, q: &Form<'_, K>) -> bool
     ensures answer { Subsumes K.Kind.domain p.now.rows.now q.now.rows.now result }
 {
+    // An array, since nothing is allocated: one match for each row of `q`.
     let mut matches = [Match::Absent; MOST_ROWS];
     decide(p, q, &mut matches).is_ok()
 }

@@ -14,7 +14,11 @@ use rows::hung::child;
 use rows::row::{MOST_ROWS, Row};
 
 // Whether `asked` asks for more than `p` gives at one of its rows, or by having none.
-fn weigh<K: Kind>(p: &Form<'_, K>, found: Option<usize>, asked: &Demand<K>) -> Result<Match, Gap>
+fn against_row<K: Kind>(
+    p: &Form<'_, K>,
+    found: Option<usize>,
+    asked: &Demand<K>,
+) -> Result<Match, Gap>
     requires { IfSome found (λ b. b < length p.now.rows.now) }
     ensures { (e q : Row K) → Asks asked.now q → Compares K.Kind.domain (gives K.Kind.domain (rows_of e p.now.rows.now) found) q (match_of found) result }
 {
@@ -32,10 +36,10 @@ fn turn<K: Kind>(p: &Form<'_, K>, q: &Form<'_, K>, c: usize, up: Match) -> Resul
     let asked = Demand::of(q, c);
     match up {
         Match::Passed => Ok(Match::Passed),
-        Match::Absent => weigh(p, None, &asked),
+        Match::Absent => against_row(p, None, &asked),
         Match::At(a) => {
             let found = child(p.rows(), usize::from(a), q.rows()[c].role);
-            weigh(p, found, &asked)
+            against_row(p, found, &asked)
         }
     }
 }
@@ -50,7 +54,8 @@ pub(crate) fn decide<K: Kind>(
     ensures { (e : Row K) → Decided K.Kind.domain (rows_of e p.now.rows.now) (length p.now.rows.now) (rows_of e q.now.rows.now) (length q.now.rows.now) (matches_of matches.new) result }
 {
     matches[0] = Match::At(0);
-    if let Err(gap) = weigh(p, Some(0), &Demand::of(q, 0)) {
+    // Not by `?`: a proof does not see which error it makes here.
+    if let Err(gap) = against_row(p, Some(0), &Demand::of(q, 0)) {
         return Err(gap.short(0));
     }
     let rows = q.rows();

@@ -21,7 +21,7 @@ pub(crate) struct Demand<K> {
 }
 
 impl<K: Kind> Demand<K> {
-    // What row `c` says.
+    // What row `c` says. A row goes by its form and its number; a type for the two would hold no more.
     pub(crate) fn of(form: &Form<'_, K>, c: usize) -> Demand<K>
         requires { c < length form.now.rows.now }
         ensures { (e : Row K) → Asks result (rows_of e form.now.rows.now c) }
@@ -50,19 +50,25 @@ impl<K: Kind> Demand<K> {
         ensures { (g : Given K.Reading) (q : Row K) → Gives K.Kind.domain self.now g → Asks asked.now q → Compares K.Kind.domain g q here result }
     {
         if let Some(count) = self.bounds.beyond(&asked.bounds) {
-            let need = Need::Count(count);
-            return Err(Gap { here, need });
+            return Err(Gap {
+                here,
+                need: Need::Count(count),
+            });
         }
         if self.bounds.is_closed() {
             return Ok(Match::Passed);
         }
         if !is_subset(asked.atoms, self.atoms) {
-            let need = Need::Atoms;
-            return Err(Gap { here, need });
+            return Err(Gap {
+                here,
+                need: Need::Atoms,
+            });
         }
         if !self.restriction.within(&asked.restriction) {
-            let need = Need::Reading;
-            return Err(Gap { here, need });
+            return Err(Gap {
+                here,
+                need: Need::Reading,
+            });
         }
         Ok(here)
     }

@@ -40,6 +40,7 @@ pub(crate) fn mark_way<K: Kind>(
     ensures { (e : Row K) (P : ℕ → Row K) (need : Need) → Shape P n → Stops K.Kind.domain P n (rows_of e q.now.rows.now) (matches_of matches.now) c (matches_of matches.now c) need → Forced P n (rows_of e q.now.rows.now) (matches_of matches.now) c count (force_of result) }
 {
     let rows = q.rows();
+    // An array, since nothing is allocated.
     let mut force = [0u16; MOST_SLOTS];
     let mut most = count;
     let mut i = c;

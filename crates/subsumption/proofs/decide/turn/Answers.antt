@@ -6,8 +6,8 @@ use Rattle.subsumption.specs.declared.gap.Match.TheVariants.{Passed}
 use Rattle.subsumption.proofs.Comparing.{child_inside, child_moved, turned}
 use Rattle.subsumption.proofs.decide.turn.Goals as goal
 
-pub weigh-requires-in-At : goal.weigh-requires-in-At
-weigh-requires-in-At g c =
+pub against_row-requires-in-At : goal.against_row-requires-in-At
+against_row-requires-in-At g c =
     subst (λ zs. IfSome c.child-found.result (λ b. b < length zs)) c.rows.ensures.value
     (child_inside c.rows.result.now _ _ c.child-found.result c.rows.ensures.shaped.0 c.child-found.ensures.value)
 
@@ -22,8 +22,8 @@ returns-in-Absent g c e =
     let P = rows_of e c.args.p.now.rows.now in
     let n = length c.args.p.now.rows.now in
     let q = rows_of e c.args.q.now.rows.now c.args.c in
-    turned k q c.args.up P n None c.weigh.result
-    (subst (λ u. Reaches k P n q.role u None) (sym c.in-Absent.is) below_none) (c.weigh.ensures e q (c.of-asked.ensures e))
+    turned k q c.args.up P n None c.against_row.result
+    (subst (λ u. Reaches k P n q.role u None) (sym c.in-Absent.is) below_none) (c.against_row.ensures e q (c.of-asked.ensures e))
 
 pub returns-in-At : goal.returns-in-At
 returns-in-At g c e =
@@ -32,5 +32,5 @@ returns-in-At g c e =
     let q = rows_of e c.args.q.now.rows.now c.args.c in
     let role = ap (λ r. r.role) (row_at c.rows-in-At.result.now c.args.q.now.rows.now c.args.c c.index-rows-c.result e c.rows-in-At.ensures.value c.requires) in
     let found = child_moved c.rows.result.now ps _ c.in-At.a _ q.role _ e c.rows.ensures.value c.from.ensures role (c.child-found.ensures.value e) in
-    turned k q c.args.up (rows_of e ps) (length ps) _ c.weigh-in-At.result
-    (subst (λ u. Reaches k (rows_of e ps) (length ps) q.role u c.child-found.result) (sym c.in-At.is) (below_row found)) (c.weigh-in-At.ensures e q (c.of-asked.ensures e))
+    turned k q c.args.up (rows_of e ps) (length ps) _ c.against_row-in-At.result
+    (subst (λ u. Reaches k (rows_of e ps) (length ps) q.role u c.child-found.result) (sym c.in-At.is) (below_row found)) (c.against_row-in-At.ensures e q (c.of-asked.ensures e))
