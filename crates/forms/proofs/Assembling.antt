@@ -25,7 +25,7 @@ use Rattle.forms.specs.Stripping.{Finishes}
 use Rattle.forms.proofs.Joining.{AlikeForms}
 use Rattle.forms.proofs.Listing.{rows_few, rows_narrow}
 use Rattle.forms.proofs.Meeting.{to_rows, from_rows}
-use Rattle.forms.proofs.Models.{row_admits, model, readings_exist}
+use Rattle.forms.proofs.Models.{model, readings_exist}
 use Rattle.forms.proofs.Reading.{to, from}
 use Rattle.forms.proofs.Shutting.{dead_bare}
 use Rattle.forms.proofs.SheetForms.{sheet_alike}
@@ -87,7 +87,6 @@ module _ {R V : Type 0} (k : Domain R V) (e : Row R) (held : List (Option ℕ)) 
       let fin = whole_finished T₂ m by in (
         record {
           sheet = record { finished = fin; roles = rows_narrow F.on T₂ m by.parents by.order by.written 16 whole_proper.narrow };
-          coherent = row_admits k (label k a) (writes a) T₂ m fin;
           met = λ y i l p. to_rows k a T₂ m fin y i l (to k y a i p);
           satisfied = λ y i l p. from k y a i (from_rows k a T₂ m fin y i p);
           model = model_of T₂ m fin;

@@ -1,29 +1,26 @@
 -- Following a path from row to row, and gathering the roles below a row, one turn at a time. Assumes nothing.
-use Rattle.std.proofs.Common.{◌≡◌, ℕ, suc, ◌+◌, ◌-◌, ◌<◌, ◌≤◌, Bool, true, false, ◌&&◌, ◌||◌, eqb, ltb, List, length, get_or, take, drop, is_some, Some, Option, sym, refl, ap, ◌∙◌, arith}
-use Rattle.std.proofs.lemmas.List.{get_or_read, drop_more, drop_all}
+use Rattle.std.proofs.Common.{◌≡◌, ℕ, suc, ◌+◌, ◌-◌, ◌<◌, ◌≤◌, Bool, true, false, ◌&&◌, ◌||◌, eqb, ltb, List, length, get_or, take, drop, is_some, Option, sym, refl, ap, ◌∙◌, arith}
+use Rattle.std.proofs.lemmas.List.{get_or_read, get_or-drop, length-drop, take_rest, drop_more}
 use Rattle.std.proofs.lemmas.Bool.{ne_eqb}
 use Rattle.std.proofs.lemmas.Bool.Decides.{nat_tests}
 use Rattle.masks.specs.Masks.{has, Joined, Single}
-use Rattle.masks.proofs.Digits.{has_zero}
 use Rattle.rows.specs.Tables.{rows_of}
 use Rattle.forms.specs.Sheets.{hooks, child, onward, find}
-use Rattle.rows.specs.Hanging.{hangs_by, child_from, child_in}
-use Rattle.rows.proofs.Hanging.{scan_more, child_front}
+use Rattle.rows.specs.Hanging.{hangs_by, child_from}
+use Rattle.rows.proofs.Hanging.{scan_more}
 use Rattle.rows.specs.declared.row.Row.{Row}
 
--- the child among the first rows of a slice
-pub found_child : {R : Type 0} (xs : List (Row R)) (n m c r : ℕ) (e : Row R) (o : Option ℕ) → m ≡ n → n ≤ length xs
-    → o ≡ child_in (λ i. ((get_or (take m xs) i e).parent, (get_or (take m xs) i e).role)) (length (take m xs)) c r → o ≡ child (rows_of e xs) n c r
-found_child xs n m c r e o q l h =
-    h ∙ ap (λ z. child_in (λ i. ((get_or (take z xs) i e).parent, (get_or (take z xs) i e).role)) (length (take z xs)) c r) q ∙ child_front (λ x. (x.parent, x.role)) xs n c r e l
+-- what is left of a list from k on: how many elements, and which
+pub rest_length : {X : Type 0} (xs : List X) (k : ℕ) → length (take (length xs - k) (drop k xs)) ≡ length xs - k
+rest_length xs k = ap length (take_rest xs k) ∙ length-drop k xs
+
+pub rest_element : {X : Type 0} (xs : List X) (k i : ℕ) (x : X) → x ≡ get_or (take (length xs - k) (drop k xs)) i x → x ≡ get_or xs (k + i) x
+rest_element xs k i x h = h ∙ ap (λ ys. get_or ys i x) (take_rest xs k) ∙ get_or-drop k xs i x
 
 -- The rest of a path leads on from row c to where the whole path leads.
 module _ {R : Type 0} (T : ℕ → Row R) (n : ℕ) (π : List ℕ) (i c : ℕ) (on : find T n π 0 ≡ find T n (drop i π) c) where
   pub find_step : (o : Option ℕ) → i < length π → o ≡ child T n c (get_or π i 0) → find T n π 0 ≡ onward (find T n (drop (i + 1) π)) o
   find_step o l e = on ∙ ap (λ ρ. find T n ρ c) (drop_more π i 0 l) ∙ ap (onward (find T n (drop (i + 1) π))) (sym e)
-
-  pub find_end : length π ≤ i → Some c ≡ find T n π 0
-  find_end l = sym (on ∙ ap (λ ρ. find T n ρ c) (drop_all i π l))
 
 -- The roles of the rows from c + 1 to b that hang from row c.
 module _ {R : Type 0} (xs : List (Row R)) (c : ℕ) where
@@ -33,11 +30,6 @@ module _ {R : Type 0} (xs : List (Row R)) (c : ℕ) where
   and_no : (t : Bool) → false ≡ (t && false)
   and_no true = refl
   and_no false = refl
-
-  pub roles_none : RolesTo 0 (c + 1)
-  roles_none e s =
-      let q : 0 ≡ (c + 1) - (c + 1) = omega arith in
-      has_zero s ∙ and_no (ltb s 64) ∙ ap (λ m. ltb s 64 && is_some (child_from (hooks (rows_of e xs)) c s m (c + 1))) q
 
   module _ (roles b : ℕ) (x : Row R) (to : RolesTo roles b) (past : c + 1 ≤ b) (inside : b < length xs) (is : x ≡ get_or xs b x) where
     scan_here : (e : Row R) (s : ℕ) → is_some (child_from (hooks (rows_of e xs)) c s ((b + 1) - (c + 1)) (c + 1)) ≡ (is_some (child_from (hooks (rows_of e xs)) c s (b - (c + 1)) (c + 1)) || hangs_by (x.parent, x.role) c s)

@@ -15,6 +15,8 @@ use Rattle.rows.specs.Tables.{then_role}
 use Rattle.forms.specs.Sheets.{Form, child, onward, find, sheet_form, plain_form, both_forms, below_role, under_form, form_of, node_form}
 use Rattle.forms.specs.Seen.{entries}
 use Rattle.forms.specs.Walks.{whole_form}
+use Rattle.forms.specs.Sources.{written}
+use Rattle.forms.specs.declared.source.Source.{Source}
 use Rattle.rows.specs.declared.row.Row.{Row}
 
 -- the empty path is written, and what leads to a written path
@@ -97,3 +99,6 @@ module _ {R V : Type 0} (k : Domain R V) where
       by : (o : Option ℕ) (p : ℕ) (f : Form V) → option_map (λ m. sheet_form k (rows_of e (block_of front back p)) m) o ≡ Some f → Fronted f
       by None p f h = let z : ◌≡◌ {A = ℕ} 0 1 = cc in absurd (omega arith)
       by (Some m) p f h = let q : sheet_form k (rows_of e (block_of front back p)) m ≡ f = cc in subst (λ (x : Form V). Fronted x) q (fronted_sheet (rows_of e (block_of front back p)) m k)
+
+  pub fronted_written : (e : Row R) (s : Source R) → Fronted (written k e s)
+  fronted_written e s = fronted_whole e s.held.now s.sheets.front.now s.sheets.back.now s.nodes.now

@@ -1,3 +1,7 @@
+pub mod Stocking
+pub mod Prefixes
+pub mod Looking
+pub mod Answering
 pub mod Reading
 pub mod Counting
 pub mod Along
@@ -22,7 +26,6 @@ pub mod Sweeping
 pub mod Wholes
 pub mod Assembling
 pub mod Listing
-pub mod Stocking
 pub mod Children
 pub mod Sights
 mod Cutting

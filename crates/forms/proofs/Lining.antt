@@ -25,6 +25,11 @@ module _ {R V : Type 0} (k : Domain R V) (f : Form V) (fronted : Fronted f) wher
   abbrev pub LaidTo : Row R → List (Row R) → List Bool → ℕ → List ℕ → Type 0
   LaidTo e xs ds n π = Laid k f.at f.on (rows_of e xs) (flags_of ds) n π
 
+  -- the same rows, flags and path by other names
+  pub laid_as : (e : Row R) {xs ys : List (Row R)} {ds es : List Bool} (n : ℕ) {π ρ : List ℕ} → xs ≡ ys → ds ≡ es → π ≡ ρ → LaidTo e ys es n ρ → LaidTo e xs ds n π
+  laid_as e {ys = ys} {ds = ds} {es = es} n {π = π} {ρ = ρ} p q r laid =
+      subst (λ zs. LaidTo e zs ds n π) (sym p) (subst (λ zs. LaidTo e ys zs n π) (sym q) (subst (λ z. LaidTo e ys es n z) (sym r) laid))
+
   holds_open : (x : FoundLabel R) (p r : ℕ) (l : Label V) → Holds k x l → Open k (row_with x p r) l
   holds_open x p r l h = record { lower = h.lower; upper = h.upper; atoms = h.atoms; restriction = h.restriction }
 

@@ -243,14 +243,6 @@ pub record Going {R V : Type 0} (k : Domain R V) (xs ys : List (Row R)) (ds es :
   pub ahead : (e : Row R) (c : ℕ) → c < i → get_or ys c e ≡ get_or xs c e
   pub through : (e : Row R) → Earlier (λ c. get_or xs c e) (length xs) → Through k (λ c. get_or xs c e) (λ c. get_or ys c e) (λ c. get_or ds c false) (λ c. get_or es c false) (length xs) i
 
-pub going_none : {R V : Type 0} (k : Domain R V) (xs : List (Row R)) (ds : List Bool) → 0 < length xs → Going k xs xs ds ds (length xs)
-going_none k xs ds some = record {
-  some = some;
-  kept = λ e c. record { parent = refl; role = refl; lower = refl; atoms = refl; restriction = refl };
-  ahead = λ e c l. refl;
-  through = λ e earlier. record { closes = λ c l u. absurd (omega arith); given = λ c h. h; marked = λ c l u. absurd (omega arith); marks = λ b h. inl h };
-}
-
 -- One turn of the loop: row j - 1 becomes `after`.
 module _ {R V : Type 0} (k : Domain R V) (xs ys : List (Row R)) (ds es gs : List Bool) (j : ℕ) (row after : Row R)
     (go : Going k xs ys ds es j) (size : length ys ≡ length xs) (more : 1 < j) (most : j ≤ length xs) (read : row ≡ get_or ys (j - 1) row)

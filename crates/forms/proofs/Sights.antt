@@ -1,8 +1,7 @@
 -- What is seen at a path of each form, from what is seen of its parts. Assumes nothing.
-use Rattle.std.proofs.Common.{◌≡◌, ℕ, zero, suc, ◌-◌, ◌<◌, Bool, true, false, cond, ◌&&◌, ◌||◌, eqb, ltb, List, [], ◌∷◌, ◌++◌, length, get_or, take, drop, is_some, Some, None, fold, Option, unwrap_or, sym, refl, ap, ◌∙◌, subst, arith}
+use Rattle.std.proofs.Common.{◌≡◌, ℕ, zero, suc, ◌<◌, Bool, true, false, cond, ◌&&◌, ◌||◌, eqb, ltb, List, [], ◌∷◌, ◌++◌, get_or, is_some, Some, None, fold, Option, unwrap_or, sym, refl, ap, ◌∙◌, subst, arith}
 use Rattle.std.specs.Option.{option_map}
-use Rattle.std.proofs.lemmas.List.{take_rest}
-use Rattle.std.proofs.lemmas.Bool.{eq-eqb, eqb-true, cond-true, cond-false, false≢true}
+use Rattle.std.proofs.lemmas.Bool.{eq-eqb, cond-true, cond-false}
 use Rattle.std.proofs.lemmas.Bool.Decides.{nat_tests}
 use Rattle.kinds.specs.Domain.{Domain}
 use Rattle.masks.specs.Masks.{has}
@@ -12,10 +11,10 @@ use Rattle.concepts.specs.Tables.{is_nothing, is_prim, is_within, is_and, is_all
 use Rattle.concepts.specs.WellFormed.{At, Faultless}
 use Rattle.concepts.specs.declared.node.Node.{Node}
 use Rattle.concepts.proofs.Values.{value_at, values_below}
-use Rattle.forms.specs.Labels.{Label, silent, bottom, an_atom, a_range, a_lower, an_upper}
+use Rattle.forms.specs.Labels.{silent, bottom, an_atom, a_range, a_lower, an_upper}
 use Rattle.rows.specs.Tables.{then_role}
 use Rattle.forms.specs.Sheets.{Form, plain_form, both_forms, under_form, sheet_form, row_label, label_of, form_of, node_form, child, onward, find}
-use Rattle.forms.specs.Seen.{Holds, Seen, begins, entries}
+use Rattle.forms.specs.Seen.{Holds, Seen, entries}
 use Rattle.forms.specs.declared.label.Label.{Label as FoundLabel}
 use Rattle.rows.specs.declared.row.Row.{Row}
 use Rattle.forms.proofs.Finding.{find_append}
@@ -23,11 +22,6 @@ use Rattle.forms.proofs.Finding.{find_append}
 and_no : (t : Bool) → false ≡ (t && false)
 and_no true = refl
 and_no false = refl
-
--- A path that begins with a role is the role and the rest.
-begins_parts : (π : List ℕ) (s : ℕ) → begins π s ≡ true → π ≡ s ∷ drop 1 π
-begins_parts [] s h = absurd (false≢true h)
-begins_parts (r ∷ π) s h = let q : r ≡ s = grind (arith, nat_tests) in ap (λ x. x ∷ π) q
 
 module _ {R V : Type 0} (k : Domain R V) where
   pub seen_as : {f g : Form V} {π : List ℕ} {x : FoundLabel R} {roles : ℕ} → f ≡ g → Seen k g π x roles → Seen k f π x roles
@@ -41,19 +35,6 @@ module _ {R V : Type 0} (k : Domain R V) where
     after = λ s. ap (λ n. has n s) none ∙ has_zero s ∙ and_no (ltb s 64) ∙ ap (λ t. ltb s 64 && t) (sym (on s));
   }
 
-  -- a label at the empty path alone
-  pub seen_plain : (l : Label V) (π : List ℕ) (x : FoundLabel R) → true ≡ eqb (length π) 0 → Holds k x l → Seen k (plain_form k l) π x 0
-  seen_plain l [] x e holds = record { label = holds; after = λ s. has_zero s ∙ and_no (ltb s 64) }
-  seen_plain l (r ∷ π) x e holds = absurd (let q = eqb-true (length (r ∷ π)) 0 (sym e) in omega arith)
-
-  pub unseen_plain : (l : Label V) (π : List ℕ) (x : FoundLabel R) (roles : ℕ) → false ≡ eqb (length π) 0 → Holds k x silent → roles ≡ 0 → Seen k (plain_form k l) π x roles
-  unseen_plain l [] x roles e holds none = absurd (false≢true e)
-  unseen_plain l (r ∷ π) x roles e holds none = seen_none (plain_form k l) (r ∷ π) x roles refl (λ s. refl) holds none
-
-  pub seen_silent : (π : List ℕ) (x : FoundLabel R) (roles : ℕ) → Holds k x silent → roles ≡ 0 → Seen k (plain_form k silent) π x roles
-  seen_silent [] x roles holds none = seen_none (plain_form k silent) [] x roles refl (λ s. refl) holds none
-  seen_silent (r ∷ π) x roles holds none = seen_none (plain_form k silent) (r ∷ π) x roles refl (λ s. refl) holds none
-
   -- below a role, what is seen at the rest of the path
   under_rest : (f : Form V) (s : ℕ) (π : List ℕ) (x : FoundLabel R) (roles : ℕ) → Seen k f π x roles → Seen k (under_form k s f) (s ∷ π) x roles
   under_rest f s π x roles seen = record {
@@ -64,11 +45,8 @@ module _ {R V : Type 0} (k : Domain R V) where
       same : eqb s s ≡ true
       same = eq-eqb s s refl
 
-  pub seen_under : (f : Form V) (s : ℕ) (π : List ℕ) (x : FoundLabel R) (roles : ℕ) → begins π s ≡ true → Seen k f (take (length π - 1) (drop 1 π)) x roles
-      → Seen k (under_form k s f) π x roles
-  seen_under f s π x roles e seen =
-      let rest = subst (λ ρ. Seen k f ρ x roles) (take_rest π 1) seen in
-      subst (λ ρ. Seen k (under_form k s f) ρ x roles) (sym (begins_parts π s e)) (under_rest f s (drop 1 π) x roles rest)
+  pub seen_under : (f : Form V) (s : ℕ) (rest π : List ℕ) (x : FoundLabel R) (roles : ℕ) → π ≡ s ∷ rest → Seen k f rest x roles → Seen k (under_form k s f) π x roles
+  seen_under f s rest π x roles e seen = subst (λ ρ. Seen k (under_form k s f) ρ x roles) (sym e) (under_rest f s rest x roles seen)
 
   -- a sheet, at a path that leads to a row or to none
   module _ (T : ℕ → Row R) (n : ℕ) (π : List ℕ) (x : FoundLabel R) (roles : ℕ) where
@@ -89,9 +67,6 @@ module _ {R V : Type 0} (k : Domain R V) where
   -- a place that is held, and one that is not
   pub seen_held : (o : Option ℕ) (F : ℕ → Form V) (m : ℕ) (π : List ℕ) (x : FoundLabel R) (roles : ℕ) → Some m ≡ o → Seen k (F m) π x roles → Seen k (unwrap_or (option_map F o) (plain_form k silent)) π x roles
   seen_held o F m π x roles e seen = subst (λ p. Seen k (unwrap_or (option_map F p) (plain_form k silent)) π x roles) e seen
-
-  pub seen_unheld : (o : Option ℕ) (F : ℕ → Form V) (π : List ℕ) (x : FoundLabel R) (roles : ℕ) → None ≡ o → Holds k x silent → roles ≡ 0 → Seen k (unwrap_or (option_map F o) (plain_form k silent)) π x roles
-  seen_unheld o F π x roles e holds none = subst (λ p. Seen k (unwrap_or (option_map F p) (plain_form k silent)) π x roles) e (seen_silent π x roles holds none)
 
   -- the form of a node, by its op
   module _ (S : ℕ → Option (Form V)) (fs : List (Form V)) (n : Node R) where

@@ -1,5 +1,5 @@
 -- The lowest role after a path, and the next path. Assumes nothing.
-use Rattle.std.proofs.Common.{◌≡◌, ℕ, ◌+◌, ◌<◌, ◌≤◌, min, Bool, true, false, ◌&&◌, ltb, List, [], ◌∷◌, ◌++◌, length, take, drop, Some, None, Option, sym, ◌∙◌, subst, ⊎_elim, arith}
+use Rattle.std.proofs.Common.{◌≡◌, ℕ, ◌+◌, ◌<◌, ◌≤◌, Bool, true, false, ◌&&◌, ltb, List, ◌++◌, length, take, drop, Some, None, Option, MatchOption, sym, ◌∙◌, subst, ⊎_elim, arith}
 use Rattle.std.proofs.lemmas.List.{length-take-le, take-append-drop}
 use Rattle.std.proofs.lemmas.Bool.{both_ways, and_parts, and_from, cases_lt, lt-ltb, ltb-true}
 use Rattle.masks.specs.Masks.{has, digit}
@@ -12,25 +12,12 @@ use Rattle.forms.proofs.Successors.{Early, early_past, next_found}
 pub has_small : (n s : ℕ) → has n s ≡ true → s < 64
 has_small n s e = ltb-true s 64 (and_parts (ltb s 64) (digit n s) e).0
 
--- none of the numbers from `from` to r is in the set
-abbrev pub Passed : ℕ → ℕ → ℕ → Type 0
-Passed set from r = (s : ℕ) → from ≤ s → s < r → has set s ≡ true → ⊥
-
-pub lowest_found : (set from r : ℕ) → from ≤ r → has set r ≡ true → Passed set from r → Lowest set from (Some r)
-lowest_found set from r l e none = (e, l, λ s f h. ⊎_elim (λ m. absurd (none s f m h)) (λ m. m) (cases_lt s r))
-
-pub lowest_none : (set from r : ℕ) → 64 ≤ r → Passed set from r → Lowest set from None
-lowest_none set from r l none s f h = none s f (let q = has_small set s h in omega arith) h
-
-pub lowest_again : (set from r : ℕ) → has set r ≡ false → Passed set from r → Passed set from (r + 1)
-lowest_again set from r e none s f l h = ⊎_elim (λ m. none s f m h) (λ m. let q : s ≡ r = omega arith in both_ways (has set r) e (subst (λ x. has set x ≡ true) q h)) (cases_lt s r)
-
--- at the end of a path any role may follow, and else one after the role that stands there
-pub starts_end : Starts [] 0
-starts_end s l = (λ h. omega arith, λ h. tt)
-
-pub starts_role : (r : ℕ) (π : List ℕ) (b : ℕ) → r < 256 → b ≡ min (r + 1) 255 → Starts (r ∷ π) b
-starts_role r π b small e s l = (λ h. omega arith, λ h. omega arith)
+-- the first number of a range that is in the set
+pub lowest_first : (set from : ℕ) (o : Option ℕ)
+    → MatchOption o ((k : ℕ) → from ≤ k → k < 64 → has set k ≡ false) (λ i. (from ≤ i) × (i < 64) × (has set i ≡ true) × ((k : ℕ) → from ≤ k → k < i → has set k ≡ false))
+    → Lowest set from o
+lowest_first set from None none = λ s l h. both_ways (has set s) (none s l (has_small set s h)) h
+lowest_first set from (Some r) w = (w.2, w.0, λ s l h. ⊎_elim (λ m. absurd (both_ways (has set s) (w.3 s l m) h)) (λ m. m) (cases_lt s r))
 
 module _ (w : List ℕ → Bool) (narrow : Narrow w) where
   -- by the roles that are found after the first roles of a path

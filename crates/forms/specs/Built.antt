@@ -1,5 +1,5 @@
 -- What building the form of a description gives. Assumes nothing.
-use Rattle.std.specs.Prelude.{◌≡◌, ℕ, ◌<◌, ◌≤◌, true, List, length, Some, None, Option}
+use Rattle.std.specs.Prelude.{◌≡◌, ℕ, ◌<◌, ◌≤◌, true, List, length, Some, None, Option, Ok, Err, Result}
 use Rattle.kinds.specs.Domain.{Domain}
 use Rattle.concepts.specs.Concepts.{Concept}
 use Rattle.concepts.specs.Interpretations.{Interpretation, Satisfies, Model, Unsatisfiable}
@@ -8,10 +8,9 @@ use Rattle.concepts.specs.Weights.{weight}
 use Rattle.concepts.specs.declared.node.Node.{Node}
 use Rattle.forms.specs.Keeping.{Sheet, Keeps}
 use Rattle.forms.specs.Seen.{Stocked}
-use Rattle.rows.specs.Shapes.{Coherent}
 use Rattle.rows.specs.Tables.{rows_of, Meets}
-use Rattle.forms.specs.declared.built.Built.{Built}
-use Rattle.forms.specs.declared.built.Built.TheVariants.{Rows, Contradictory, Unfit}
+use Rattle.forms.specs.declared.build.Unbuilt.{Unbuilt}
+use Rattle.forms.specs.declared.build.Unbuilt.TheVariants.{Contradictory, Unfit}
 use Rattle.rows.specs.declared.row.Row.{Row}
 
 module _ {R V : Type 0} (k : Domain R V) where
@@ -23,8 +22,6 @@ module _ {R V : Type 0} (k : Domain R V) where
   pub record Formed (a : Concept R) (T : ℕ → Row R) (n : ℕ) : Type 0 where
     -- they are its finished form
     pub sheet : Sheet k a T n
-    -- of which each admits a reading
-    pub coherent : Coherent k T n
     -- an element meets them exactly when it satisfies the concept
     pub met : (y : Interpretation k) (i : ℕ) → i < y.size → Satisfies k y a i → Meets y T n 0 i
     pub satisfied : (y : Interpretation k) (i : ℕ) → i < y.size → Meets y T n 0 i → Satisfies k y a i
@@ -43,7 +40,7 @@ module _ {R V : Type 0} (k : Domain R V) where
   Forms held front back nodes rows None = (e : Row R) (E : ℕ → Option (Concept R)) → Keeps k e held front back E → Unsatisfiable k (concept E nodes)
 
   -- the answer: unfit exactly where there is no room or no block
-  abbrev pub Answers : List (Option ℕ) → List (Row R) → List (Row R) → List (Node R) → List (Row R) → Built → Type 0
-  Answers held front back nodes rows (Rows n) = Fit held front back (length rows) × Forms held front back nodes rows (Some n)
-  Answers held front back nodes rows Contradictory = Fit held front back (length rows) × Forms held front back nodes rows None
-  Answers held front back nodes rows Unfit = Fit held front back (length rows) → ⊥
+  abbrev pub Answers : List (Option ℕ) → List (Row R) → List (Row R) → List (Node R) → List (Row R) → Result ℕ Unbuilt → Type 0
+  Answers held front back nodes rows (Ok n) = Fit held front back (length rows) × Forms held front back nodes rows (Some n)
+  Answers held front back nodes rows (Err Contradictory) = Fit held front back (length rows) × Forms held front back nodes rows None
+  Answers held front back nodes rows (Err Unfit) = Fit held front back (length rows) → ⊥

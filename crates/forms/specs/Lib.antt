@@ -11,5 +11,6 @@ pub mod Seen
 pub mod Blocks
 pub mod Few
 pub mod Walks
+pub mod Sources
 pub mod Keeping
 pub mod Built

@@ -9,6 +9,7 @@ use Rattle.rows.specs.Tables.{then_role, rows_of}
 use Rattle.forms.specs.Sheets.{Form, sheet_form}
 use Rattle.forms.specs.Blocks.{block_of}
 use Rattle.forms.specs.declared.label.Label.{Label as FoundLabel}
+use Rattle.forms.specs.declared.look.Found.{Found}
 use Rattle.rows.specs.declared.row.Row.{Row}
 
 -- the path begins with the role s
@@ -29,6 +30,10 @@ module _ {R V : Type 0} (k : Domain R V) where
   pub record Seen (f : Form V) (π : List ℕ) (x : FoundLabel R) (roles : ℕ) : Type 0 where
     pub label : Holds x (f.at π)
     pub after : (s : ℕ) → has roles s ≡ (nat_lt s 64 && f.on (then_role π s))
+
+  -- the same of what is found
+  abbrev pub Shows : Form V → List ℕ → Found R → Type 0
+  Shows f π found = Seen f π found.label found.roles
 
   -- what the places hold: the sheets in their blocks, with as many rows as is said
   abbrev pub entries : Row R → List (Option ℕ) → List (Row R) → List (Row R) → ℕ → Option (Form V)

@@ -56,15 +56,17 @@ pub(crate) fn both<K: Kind>(a: Label<K>, b: Label<K>) -> Label<K>
 }
 
 // What a row holds.
-pub(crate) fn of_row<K: Kind>(row: &Row<K>) -> Label<K>
-    ensures { Holds K.Kind.domain result (row_label K.Kind.domain row.now) }
-{
-    Label {
-        empty: false,
-        atoms: row.atoms,
-        restriction: row.restriction,
-        lower: row.lower,
-        upper: row.upper,
+impl<K: Kind> From<&Row<K>> for Label<K> {
+    ghost from_gives = { λ row label. Holds K.Kind.domain label (row_label K.Kind.domain row.now) };
+
+    fn from(row: &Row<K>) -> Label<K> {
+        Label {
+            empty: false,
+            atoms: row.atoms,
+            restriction: row.restriction,
+            lower: row.lower,
+            upper: row.upper,
+        }
     }
 }
 

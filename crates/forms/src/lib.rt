@@ -2,7 +2,6 @@
 #![tactic(auto)]
 
 pub mod build;
-pub mod built;
 mod find;
 mod label;
 mod lay;

@@ -4,13 +4,14 @@ ghost use Rattle.rows.specs.Numbers.{Over};
 ghost use Rattle.forms.specs.Settling.{Bare, Closes, Settles};
 
 use kinds::kind::Kind;
+use rows::bounds::Bounds;
 use rows::row::{MOST_ROWS, Row};
 
 // Whether the lower number is above the upper one.
 fn over<K>(row: &Row<K>) -> bool
     ensures { Decides result (Over row.now.lower row.now.upper) }
 {
-    row.upper.is_some_and(|most| row.lower > most)
+    Bounds::of(row).is_none()
 }
 
 // Whether nothing can stand at a row: it is dead, or admits no reading.

@@ -5,7 +5,7 @@ ghost use Rattle.forms.specs.Stripping.{is_zero as is_zero_upper, Hung, Strips};
 use kinds::kind::Kind;
 use rows::row::{MOST_ROWS, Row};
 
-// Whether nothing is allowed.
+// Whether nothing is allowed. Not by `Bounds`, since here the lower number may be above the upper one.
 fn is_zero(upper: Option<u16>) -> bool
     ensures { result ≡ is_zero_upper upper }
 {
@@ -39,6 +39,7 @@ pub(crate) fn strip<K: Kind>(rows: &mut [Row<K>]) -> usize
     ensures finished { Strips K.Kind.domain rows.old (length rows.old) rows.new result }
 {
     // For each row so far, the number that the rows hanging from it get as parent; None where none of them stays.
+    // An array, since nothing is allocated.
     let mut under = [None; MOST_ROWS];
     under[0] = Some(0);
     let mut m = 1;

@@ -1,10 +1,9 @@
 // Descriptions that pass their checks, and descriptions that are declined.
 use concepts::description::checks::check;
 use concepts::node::Node;
-use concepts::op::{Op, UnknownOp};
+use concepts::op::Op;
 use concepts::refusal::{Named, Refusal};
 use kinds::span::Span;
-use std::test::Fail;
 
 // Two places: the first is held, by an entry of 126 rows.
 const HELD: [Option<u8>; 2] = [Some(126), None];
@@ -166,12 +165,4 @@ fn refusals(rt: HostRuntime) {
     for (refusal, expected) in cases {
         assert_eq!(rt; (refusal.number(), refusal.detail()), expected);
     }
-}
-
-// A number that no op has, in words.
-#[test]
-fn unknown_op(rt: HostRuntime) -> Result<(), Fail> {
-    let text = format!(in rt.alloc(); "{}", UnknownOp(9))?;
-    assert_eq!(rt; text.as_str(), "no op has number 9");
-    Ok(())
 }

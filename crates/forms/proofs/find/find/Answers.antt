@@ -1,23 +1,16 @@
-use Rattle.std.proofs.Common.{◌-◌, get_or, Some, None, sym, arith}
+use Rattle.std.proofs.Common.{◌≡◌, Some, None, sym, ◌∙◌, rules}
 use Rattle.rows.specs.Tables.{rows_of}
-use Rattle.forms.proofs.Children.{found_child, find_step, find_end}
+use Rattle.forms.proofs.Children.{find_step}
 use Rattle.forms.proofs.find.find.Goals as goal
 
 pub loop-role-preserved : goal.loop-role-preserved
 loop-role-preserved g c e =
-    let xs = c.args.rows.now in
-    let n = c.args.n in
-    let π = c.args.path.now in
-    find_step (rows_of e xs) n π c.loop-role.role-index c.loop-role.c (c.loop-role.invariant e) (Some c.in-Some.b) c.loop-role-test.true
-    (found_child xs n (n - 0) c.loop-role.c (get_or π c.loop-role.role-index 0) e (Some c.in-Some.b) (omega arith) c.requires (c.in-Some.ensures.value e))
+    find_step (rows_of e c.args.rows.now) _ c.args.path.now c.loop-role.role-index c.loop-role.c (c.loop-role.invariant e) (Some c.in_ok-c.c) c.loop-role-test.true
+    (sym c.in_ok-c.was ∙ c.child.ensures.value e)
 
-pub returns : goal.returns
-returns g c e = find_end (rows_of e c.args.rows.now) _ _ _ _ (c.loop-role.invariant e) c.loop-role-test.false
-
-pub returns-in-None : goal.returns-in-None
-returns-in-None g c e =
-    let xs = c.args.rows.now in
-    let n = c.args.n in
-    let π = c.args.path.now in
-    sym (find_step (rows_of e xs) n π c.loop-role.role-index c.loop-role.c (c.loop-role.invariant e) None c.loop-role-test.true
-    (found_child xs n (n - 0) c.loop-role.c (get_or π c.loop-role.role-index 0) e None (omega arith) c.requires (c.in-None.ensures.value e)))
+pub returns-in_err-c : goal.returns-in_err-c
+returns-in_err-c g c e =
+    let none : c.from_residual.result ≡ None = search rules in
+    let gone : c.child.result ≡ None = search rules in
+    none ∙ sym (find_step (rows_of e c.args.rows.now) _ c.args.path.now c.loop-role.role-index c.loop-role.c (c.loop-role.invariant e) None c.loop-role-test.true
+    (sym gone ∙ c.child.ensures.value e))

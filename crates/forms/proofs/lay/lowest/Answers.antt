@@ -1,12 +1,10 @@
-use Rattle.std.proofs.Common.{sym}
-use Rattle.forms.proofs.Walking.{lowest_found, lowest_none, lowest_again}
+use Rattle.std.proofs.Common.{◌≡◌, true, false, rules}
+use Rattle.std.proofs.lemmas.Iterator.{first_from_Range}
+use Rattle.masks.specs.Masks.{has}
+use Rattle.forms.proofs.Walking.{lowest_first}
 use Rattle.forms.proofs.lay.lowest.Goals as goal
 
-pub returns-then-has : goal.returns-then-has
-returns-then-has c = lowest_found c.args.roles c.args.from c.loop-role.role c.loop-role.auto.role (sym c.if-has.ensures) c.loop-role.invariant
-
 pub returns : goal.returns
-returns c = lowest_none c.args.roles c.args.from c.loop-role.role c.loop-role-test.false c.loop-role.invariant
-
-pub loop-role-preserved : goal.loop-role-preserved
-loop-role-preserved c = lowest_again c.args.roles c.args.from c.loop-role.role (sym c.if-has.ensures) c.loop-role.invariant
+returns c =
+    let first = first_from_Range _ _ _ _ (λ x. has c.args.roles x ≡ true) (λ x. has c.args.roles x ≡ false) c.find.ensures.ran (λ x q k. search rules) (λ x q k. search rules) in
+    lowest_first c.args.roles c.args.from c.find.result first
