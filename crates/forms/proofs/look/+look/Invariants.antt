@@ -1,4 +1,0 @@
-use Rattle.forms.proofs.look.+look.Given as goal
-
-abbrev pub decreases-look : goal.decreases-look
-decreases-look g l = l.i
