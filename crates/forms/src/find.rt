@@ -25,6 +25,7 @@ pub(crate) fn roles_below<K>(rows: &[Row<K>], c: usize) -> u64
     ensures { (e : Row K) (s : ℕ) → has result s ≡ (nat_lt s 64 && is_some (child_of (rows_of e rows.now) (length rows.now) c s)) }
 {
     let mut roles = 0;
+    // A cast, as those of look.rt: with `usize::from` the proof was tried and did not close.
     for row in &rows[c + 1..] {
         if row.parent as usize == c {
             roles = joined(roles, single(row.role));

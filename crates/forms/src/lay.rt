@@ -66,7 +66,7 @@ impl<K: Kind> Source<'_, K> {
         ensures inside { IfSome result (λ x. x.0 ≤ length path.now) }
         ensures ahead { (e : Row K) → Narrow (written K.Kind.domain e self.now).on → Ahead (written K.Kind.domain e self.now).on path.now result }
     {
-        // A loop: what holds of the depths passed so far shows that the first role that is found is the next.
+        // A loop: with `find_map` the proof was tried and did not close, for want of what holds of the depths passed.
         for d in (0..path.len() + 1).rev() {
             if let Some(role) = self.turn(path, d) {
                 return Some((d, role));
@@ -84,7 +84,8 @@ impl<K: Kind> Source<'_, K> {
     {
         put(rows, dead, 0, self.at(&[]).label, 0, 0);
         let mut path = ArrayVec::<u8, MOST_ROWS>::new();
-        // By index: a row is written after those among which its parent is looked up.
+        // By index: a row is written after those among which its parent is looked up. They are fewer than 128, so the cast
+        // cuts nothing off.
         for n in 1..MOST_ROWS {
             let Some((d, role)) = self.next(&path) else {
                 return n;

@@ -128,6 +128,7 @@ impl<K: Kind> Source<'_, K> {
         ensures { (e : Row K) → Shows K.Kind.domain (unwrap_or (holdings K.Kind.domain e self.now place) (plain_form K.Kind.domain nothing_written)) path.now result }
     {
         match rows_held(self.held, place) {
+            // Casts here and below, as in find.rt: the proof with `usize::from` was tried and did not close.
             Some(n) => in_sheet(&self.sheets.of(place as usize)[..n as usize], path),
             None => unwritten(),
         }

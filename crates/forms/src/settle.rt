@@ -47,6 +47,7 @@ pub(crate) fn settle<K: Kind>(rows: &mut [Row<K>], dead: &mut [bool; MOST_ROWS])
         let row = closed(rows[c], dead[c]);
         rows[c] = row;
         let parent = usize::from(row.parent);
+        // By a test, since a proof is not told what `get_mut` of a slice writes; that was tried.
         if parent < dead.len() && over(&row) {
             dead[parent] = true;
         }

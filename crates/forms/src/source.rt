@@ -30,7 +30,7 @@ fn supplied<K>(rows: Option<u8>, block: &[Row<K>]) -> bool
 fn stocked<K>(held: &[Option<u8>], sheets: &Sheets<K>) -> bool
     ensures { Decides result (Stocked held.now sheets.now.front.now sheets.now.back.now) }
 {
-    // A loop, since `all` says too little of the places that it passed.
+    // A loop: with `all` the proof was tried and did not close, for want of what holds of the places passed.
     for (place, rows) in held.iter().enumerate() {
         if !supplied(*rows, sheets.of(place)) {
             return false;

@@ -43,7 +43,7 @@ pub(crate) fn strip<K: Kind>(rows: &mut [Row<K>]) -> usize
     let mut under = [None; MOST_ROWS];
     under[0] = Some(0);
     let mut m = 1;
-    // By index: a row that stays is written where an earlier one stood.
+    // By index: a row that stays is written where an earlier one stood. Rows are 128 at most, so the cast cuts nothing off.
     for c in 1..rows.len() {
         let row = rows[c];
         let Some(parent) = under.get(usize::from(row.parent)).copied().flatten() else {

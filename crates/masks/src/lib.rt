@@ -64,5 +64,6 @@ pub fn is_subset(a: u64, b: u64) -> bool
 pub fn member(a: u64) -> u8
     ensures { Member a result }
 {
+    // At most 64, so the cast cuts nothing off; `try_from` would bring in a failure that cannot be.
     a.trailing_zeros() as u8
 }

@@ -15,6 +15,7 @@ pub mod facts;
 fn others(under: &[u64; 64], p: usize) -> u64
     ensures { (q : ℕ) → has_bit result q ≡ strictly under.now p q }
 {
+    // A place that has a mask is below 64, so the cast cuts nothing off.
     under
         .get(p)
         .map_or(0, |mask| lacking(*mask, single(p as u8)))

@@ -22,6 +22,7 @@ fn against_row<K: Kind>(
     requires { IfSome found (λ b. b < length p.now.rows.now) }
     ensures { (e q : Row K) → Asks asked.now q → Compares K.Kind.domain (gives K.Kind.domain (rows_of e p.now.rows.now) found) q (match_of found) result }
 {
+    // A form has 128 rows at most, so the cast cuts nothing off.
     match found {
         None => Demand::silent().against(asked, Match::Absent),
         Some(b) => Demand::of(p, b).against(asked, Match::At(b as u8)),

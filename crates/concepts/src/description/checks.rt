@@ -91,8 +91,9 @@ fn weigh<K>(nodes: &[Node<K>], held: &[Option<u8>]) -> u8
     requires few { length nodes.now ≤ 128 }
     ensures { result ≡ min 255 (weight held.now nodes.now) }
 {
+    // An array, since nothing is allocated.
     let mut weights = [0u8; MOST_NODES];
-    // An array, since nothing is allocated. By index: a weight is made of lower ones in it.
+    // By index: a weight is made of lower ones in the same array.
     for (i, node) in nodes.iter().enumerate() {
         weights[i] = weight_of(node, &weights, held);
     }
@@ -111,6 +112,7 @@ pub fn check<'n, 'h, K>(
     if nodes.is_empty() || nodes.len() > MOST_NODES {
         return Err(Refusal::Length);
     }
+    // There are at most 128 nodes, so the cast cuts nothing off.
     for (i, node) in nodes.iter().enumerate() {
         check_node(i as u8, node, held)?;
     }
