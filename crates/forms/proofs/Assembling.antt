@@ -13,7 +13,7 @@ use Rattle.forms.specs.Finished.{Dead, FinishedBy, Finished}
 use Rattle.forms.specs.Sheets.{Form, sheet_form, concept_form}
 use Rattle.forms.specs.Seen.{entries}
 use Rattle.forms.specs.Few.{Few}
-use Rattle.forms.specs.Keeping.{Keeps}
+use Rattle.forms.specs.Keeping.{Keeps, Orderly}
 use Rattle.forms.specs.Walks.{Proper, LaidOut, whole_form}
 use Rattle.forms.specs.Blocks.{block_of}
 use Rattle.rows.specs.declared.row.Row.{Row}
@@ -21,18 +21,19 @@ use Rattle.concepts.specs.Interpretations.{Model, Unsatisfiable}
 use Rattle.forms.specs.Labels.{Label}
 use Rattle.forms.specs.Built.{Readings, Formed}
 use Rattle.forms.specs.Settling.{Ready, Comes}
+use Rattle.rows.specs.Shapes.{Shape}
 use Rattle.forms.specs.Stripping.{Finishes}
 use Rattle.forms.proofs.Joining.{AlikeForms}
 use Rattle.forms.proofs.Listing.{rows_few, rows_narrow}
 use Rattle.forms.proofs.Meeting.{to_rows, from_rows}
-use Rattle.forms.proofs.Models.{model, readings_exist}
+use Rattle.forms.proofs.Models.{within_numbers, row_admits, model, readings_exist}
 use Rattle.forms.proofs.Reading.{to, from}
 use Rattle.forms.proofs.Shutting.{dead_bare}
 use Rattle.forms.proofs.SheetForms.{sheet_alike}
 use Rattle.forms.proofs.NodeForms.{HeldAlike, nodes_alike}
 use Rattle.forms.proofs.RowBound.{SheetsHeld, rows_bound}
 use Rattle.forms.proofs.Transfer.{finished_moves, root_moves}
-use Rattle.forms.proofs.Wholes.{quiet_whole, closing_whole}
+use Rattle.forms.proofs.Wholes.{top_bare, rows_limited, quiet_whole, closing_whole}
 
 module _ {R V : Type 0} (k : Domain R V) (e : Row R) (held : List (Option ℕ)) (front back : List (Row R)) (E : ℕ → Option (Concept R)) (nodes : List (Node R))
     (keeps : Keeps k e held front back E) (fine : WellFormed held nodes) where
@@ -77,22 +78,39 @@ module _ {R V : Type 0} (k : Domain R V) (e : Row R) (held : List (Option ℕ)) 
   pub whole_proper : Proper F
   whole_proper = record { narrow = (quiet_whole k e held front back E nodes keeps fine).narrow; few = λ ps asc all. let l = fine.light in omega (arith, whole_few ps asc all) }
 
+  -- the rows of a finished form are well formed where those held are
+  shaped : (T : ℕ → Row R) (m : ℕ) → FinishedBy k F.at F.on T m → Finished k a T m → m ≤ weight held nodes → Orderly e held front back → Shape T m
+  shaped T m by fin light orderly = record {
+    some = by.some;
+    few = let l = fine.light in omega arith;
+    first = by.first;
+    bare = top_bare k a T m fin;
+    parents = by.parents;
+    roles = rows_narrow F.on T m by.parents by.order by.written 16 whole_proper.narrow;
+    numbers = within_numbers k (label k a) (writes a) T m fin;
+    limits = rows_limited k F.at F.on T m by ((quiet_whole k e held front back E nodes keeps fine).limits orderly);
+    order = by.order;
+  }
+
   -- laid, settled and stripped rows are the finished form
   pub assembled : (T₀ T₁ T₂ : ℕ → Row R) (dead : ℕ → Bool) (n m : ℕ) → LaidOut k F T₀ dead n → ((f : List ℕ → Label V) (w : List ℕ → Bool) → Ready k f w T₀ n dead → Comes k f w T₁ n false)
-      → Finishes k T₁ n T₂ m → Formed k a T₂ m × (m ≤ weight held nodes)
+      → Finishes k T₁ n T₂ m → Formed k a T₂ m × (m ≤ weight held nodes) × (Orderly e held front back → Shape T₂ m)
   assembled T₀ T₁ T₂ dead n m laid settled strips =
       let closing = closing_whole k e held front back E nodes keeps fine in
       let comes = settled F.at F.on (record { closing = closing; placed = laid.placed; filled = laid.filled; flagged = laid.flagged }) in
       let by = strips F.at F.on closing (comes.live refl) comes.placed (comes.settled refl) in
-      let fin = whole_finished T₂ m by in (
+      let fin = whole_finished T₂ m by in
+      let light = rows_few F.on T₂ m by.parents by.order by.written (weight held nodes) whole_few in (
         record {
           sheet = record { finished = fin; roles = rows_narrow F.on T₂ m by.parents by.order by.written 16 whole_proper.narrow };
+          coherent = row_admits k (label k a) (writes a) T₂ m fin;
           met = λ y i l p. to_rows k a T₂ m fin y i l (to k y a i p);
           satisfied = λ y i l p. from k y a i (from_rows k a T₂ m fin y i p);
           model = model_of T₂ m fin;
           satisfiable = λ none. readings_exist k (label k a) (writes a) T₂ m fin (λ readings. none (model_of T₂ m fin readings));
         },
-        rows_few F.on T₂ m by.parents by.order by.written (weight held nodes) whole_few,
+        light,
+        shaped T₂ m by fin light,
       )
     where
       model_of : (T : ℕ → Row R) (m : ℕ) → Finished k a T m → Readings k T m → Model k a

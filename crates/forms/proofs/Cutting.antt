@@ -11,7 +11,8 @@ use Rattle.concepts.specs.Weights.{weight}
 use Rattle.concepts.specs.WellFormed.{WellFormed}
 use Rattle.forms.specs.Built.{Formed}
 use Rattle.forms.specs.Finished.{Open, Content, FinishedBy}
-use Rattle.forms.specs.Keeping.{Keeps}
+use Rattle.forms.specs.Keeping.{Keeps, Orderly}
+use Rattle.rows.specs.Shapes.{Shape}
 use Rattle.forms.specs.Labels.{Label}
 use Rattle.forms.specs.Settling.{Settles}
 use Rattle.forms.specs.Sheets.{Form}
@@ -72,7 +73,7 @@ module _ {R V : Type 0} (k : Domain R V) (e : Row R) (held : List (Option ℕ)) 
       (laid_agree k (rows_of e xs) (rows_of e (take n xs)) n (λ c l. sym (get_or-take n xs c e l)) F (flags_of ds) (laid (whole_proper k e held front back E nodes keeps fine)))
 
   pub formed : (zs rest : List (Row R)) (m : ℕ) → m ≤ length zs → Settles k (take n xs) (length (take n xs)) ds false ys → Strips k ys (length ys) zs m
-      → Formed k (concept E nodes) (rows_of e (zs ++ rest)) m × (m ≤ weight held nodes)
+      → Formed k (concept E nodes) (rows_of e (zs ++ rest)) m × (m ≤ weight held nodes) × (Orderly e held front back → Shape (rows_of e (zs ++ rest)) m)
   formed zs rest m few settles strips =
       assembled k e held front back E nodes keeps fine (rows_of e (take n xs)) (rows_of e ys) (rows_of e (zs ++ rest)) (flags_of ds) (length (take n xs)) m cut
       (settles.comes e)

@@ -6,8 +6,9 @@ use Rattle.concepts.specs.Interpretations.{Interpretation, Satisfies, Model, Uns
 use Rattle.concepts.specs.Tables.{concept}
 use Rattle.concepts.specs.Weights.{weight}
 use Rattle.concepts.specs.declared.node.Node.{Node}
-use Rattle.forms.specs.Keeping.{Sheet, Keeps}
+use Rattle.forms.specs.Keeping.{Sheet, Keeps, Orderly}
 use Rattle.forms.specs.Seen.{Stocked}
+use Rattle.rows.specs.Shapes.{Shape, Coherent}
 use Rattle.rows.specs.Tables.{rows_of, Meets}
 use Rattle.forms.specs.declared.build.Unbuilt.{Unbuilt}
 use Rattle.forms.specs.declared.build.Unbuilt.TheVariants.{Contradictory, Unfit}
@@ -22,6 +23,8 @@ module _ {R V : Type 0} (k : Domain R V) where
   pub record Formed (a : Concept R) (T : ℕ → Row R) (n : ℕ) : Type 0 where
     -- they are its finished form
     pub sheet : Sheet k a T n
+    -- and each of them admits a reading
+    pub coherent : Coherent k T n
     -- an element meets them exactly when it satisfies the concept
     pub met : (y : Interpretation k) (i : ℕ) → i < y.size → Satisfies k y a i → Meets y T n 0 i
     pub satisfied : (y : Interpretation k) (i : ℕ) → i < y.size → Meets y T n 0 i → Satisfies k y a i
@@ -33,10 +36,11 @@ module _ {R V : Type 0} (k : Domain R V) where
   abbrev pub Fit : List (Option ℕ) → List (Row R) → List (Row R) → ℕ → Type 0
   Fit held front back room = (128 ≤ room) × Stocked held front back
 
-  -- the rows left, or that nothing satisfies the concept, whatever concepts the sheets are the finished forms of
+  -- the rows left, or that nothing satisfies the concept, whatever concepts the sheets are the finished forms of. They are
+  -- no more than the weight, and well formed where those held are.
   abbrev pub Forms : List (Option ℕ) → List (Row R) → List (Row R) → List (Node R) → List (Row R) → Option ℕ → Type 0
   Forms held front back nodes rows (Some n) =
-      (e : Row R) (E : ℕ → Option (Concept R)) → Keeps k e held front back E → Formed (concept E nodes) (rows_of e rows) n × (n ≤ weight held nodes)
+      (e : Row R) (E : ℕ → Option (Concept R)) → Keeps k e held front back E → Formed (concept E nodes) (rows_of e rows) n × (n ≤ weight held nodes) × (Orderly e held front back → Shape (rows_of e rows) n)
   Forms held front back nodes rows None = (e : Row R) (E : ℕ → Option (Concept R)) → Keeps k e held front back E → Unsatisfiable k (concept E nodes)
 
   -- the answer: unfit exactly where there is no room or no block
