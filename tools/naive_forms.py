@@ -373,6 +373,22 @@ def broad(chance, held):
     return table.nodes
 
 
+def pruned(chance, held):
+    """Shut roles with paths below them, and open ones after those."""
+    table = Table(chance, held, style(chance, noise=0, roles=[0, 1, 2], empty=0, leaves=[2, 0, 6, 2], reach=1000,
+                                      least=[0, 0, 1, 2], most=[2, 3, 4, 999]))
+    node = table.leaf()
+    for role in chance.sample(range(16), 4):
+        part = table.all(role, table.grow(20))
+        if chance.random() < 0.4:
+            shut = table.add(AT_MOST, 2, which=role, count=0)
+            part = table.both(part, shut if chance.random() < 0.5 else table.all(role, table.add(NOTHING, 1)))
+        node = table.both(node, part)
+    for _ in range(chance.randrange(4)):
+        node = table.all(table.role(), node)
+    return table.nodes
+
+
 def entry_alone(chance, held):
     """One entry, or one below a role, or two together."""
     table = Table(chance, held, style(chance))
@@ -504,7 +520,7 @@ def make_run(chance):
         run.draw(make, fits)
     any_answer = lambda found: True
     contradictory = lambda found: found == 'contradictory'
-    for make, number in [(plain, 35), (large, 25), (tight, 45), (naming, 40), (chain, 20), (twigs, 6), (line_down, 4),
+    for make, number in [(plain, 30), (large, 20), (tight, 40), (pruned, 20), (naming, 35), (chain, 20), (twigs, 6), (line_down, 4),
                          (broad, 12), (entry_alone, 15), (raw, 15), (heavy, 10), (length, 8), (spoilt, 35),
                          (with_unused, 6)]:
         for _ in range(number):
