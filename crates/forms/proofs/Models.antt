@@ -14,7 +14,8 @@ use Rattle.rows.specs.declared.group.Group.{Group}
 use Rattle.rows.proofs.Rooted.{path_of, parent_path}
 use Rattle.rows.proofs.Groups.{owner_first}
 use Rattle.std.proofs.lemmas.Option.{same_Some}
-use Rattle.rows.proofs.Fitting.{Suits, Fitting, kin, fitting_meets}
+use Rattle.rows.specs.Suiting.{Suits, kin}
+use Rattle.rows.proofs.Fitting.{Fitting, fitting_meets}
 use Rattle.rows.proofs.Shaping.{single}
 
 -- a lower number is within the upper one or above it

@@ -1,11 +1,11 @@
 -- Rows held against a table of groups: each row that is reached has its group, and the table meets the rows exactly where every group suits its row. Assumes nothing.
-use Rattle.std.proofs.Common.{◌≡◌, ℕ, zero, suc, ◌+◌, ◌<◌, ◌≤◌, true, Some, None, Option, sym, refl, ap, ◌∙◌, subst, arith}
+use Rattle.std.proofs.Common.{◌≡◌, ℕ, zero, suc, ◌+◌, ◌<◌, ◌≤◌, true, Some, Option, sym, refl, ap, ◌∙◌, subst, arith}
 use Rattle.kinds.specs.Domain.{Domain}
-use Rattle.masks.specs.Masks.{has}
 use Rattle.concepts.specs.Interpretations.{Interpretation, how_many}
 use Rattle.rows.specs.Numbers.{Allows}
 use Rattle.rows.specs.Tables.{Meets, meets}
 use Rattle.rows.specs.Groups.{total, owner, owner_below, world_of}
+use Rattle.rows.specs.Suiting.{Kin, kin, no_kin, heads, Suits}
 use Rattle.rows.specs.declared.row.Row.{Row}
 use Rattle.rows.specs.declared.group.Group.{Group}
 use Rattle.rows.proofs.Groups.{copy, hangs_parts, hangs_from, Alone, fillers, fillers_none}
@@ -15,27 +15,11 @@ use Rattle.rows.proofs.Rooted.{Earlier}
 abbrev pub Lone : {V : Type 0} → (ℕ → Group V) → ℕ → Type 0
 Lone G n = (g h : ℕ) → 0 < g → g < n → 0 < h → h < n → (G g).parent ≡ (G h).parent → (G g).role ≡ (G h).role → g ≡ h
 
-module _ {V : Type 0} (G : ℕ → Group V) (n : ℕ) where
-  -- the group that hangs from group h by the role r, if there is one
-  pub data Kin (h r : ℕ) : Option ℕ → Type 0 where
-    kin : {g : ℕ} → 0 < g → g < n → (G g).parent ≡ h → (G g).role ≡ r → Kin h r (Some g)
-    no_kin : ((g : ℕ) → 0 < g → g < n → (G g).parent ≡ h → (G g).role ≡ r → ⊥) → Kin h r None
-
-  -- how many elements such a group has
-  abbrev pub heads : Option ℕ → ℕ
-  heads None = 0
-  heads (Some g) = (G g).headcount
-
 module _ {R V : Type 0} (k : Domain R V) where
-  -- a group has the atoms of a row, and a reading that the row admits
-  pub record Suits (row : Row R) (group : Group V) : Type 0 where
-    pub atoms : (x : ℕ) → has row.atoms x ≡ true → has group.atoms x ≡ true
-    pub reading : k.admits row.restriction group.reading ≡ true
-
   module _ (T : ℕ → Row R) (m : ℕ) (G : ℕ → Group V) (n : ℕ) where
     -- each row that is reached has its group, and fits it
     pub record Fitting (made : ℕ → Option ℕ) : Type 0 where
-      pub there : (c g : ℕ) → c < m → made c ≡ Some g → Suits (T c) (G g)
+      pub there : (c g : ℕ) → c < m → made c ≡ Some g → Suits k (T c) (G g)
       pub kin : (b h : ℕ) → 0 < b → b < m → made (T b).parent ≡ Some h → Kin G n h (T b).role (made b)
       pub numbers : (b h : ℕ) → 0 < b → b < m → made (T b).parent ≡ Some h → Allows (T b).lower (T b).upper (heads G n (made b))
 
@@ -46,7 +30,7 @@ module _ {R V : Type 0} (k : Domain R V) where
 
     -- a row that some group does not fit
     pub data Fault : Type 0 where
-      unsuited : (c g : ℕ) → c < m → Trail c g → (Suits (T c) (G g) → ⊥) → Fault
+      unsuited : (c g : ℕ) → c < m → Trail c g → (Suits k (T c) (G g) → ⊥) → Fault
       miscounted : (c h : ℕ) (o : Option ℕ) → 0 < c → c < m → Trail (T c).parent h → Kin G n h (T c).role o → (Allows (T c).lower (T c).upper (heads G n o) → ⊥) → Fault
 
     module _ (some : 0 < total G n) (reads : (c : ℕ) → c < n → k.reads (G c).reading ≡ true) (lone : Lone G n) where
@@ -89,7 +73,7 @@ module _ {R V : Type 0} (k : Domain R V) where
         fitting_meets c i l e = meets_by m c i (omega arith) l e
 
       module _ (peopled : (g : ℕ) → g < n → 0 < (G g).headcount) (earlier : Earlier T m) (top : 0 < n) (met : Meets y T m 0 0) where
-        suits_of : (c i : ℕ) → Meets y T m c i → Suits (T c) (G (owner G n i))
+        suits_of : (c i : ℕ) → Meets y T m c i → Suits k (T c) (G (owner G n i))
         suits_of c i (meets a r u v) = record { atoms = a; reading = r }
 
         numbers_of : (c i b : ℕ) → Meets y T m c i → 0 < b → b < m → (T b).parent ≡ c → Allows (T b).lower (T b).upper (how_many (y.filler i (T b).role) y.size)
@@ -114,7 +98,7 @@ module _ {R V : Type 0} (k : Domain R V) where
                 (e.0, e.1, e.2, fillers_of (T c).parent up.0 c e.0 up.3 z l refl e.1 step)
 
         pub fault_fails : Fault → ⊥
-        fault_fails (unsuited c g l t bad) = let x = along c g t in bad (subst (λ h. Suits (T c) (G h)) x.2 (suits_of c x.0 x.3))
+        fault_fails (unsuited c g l t bad) = let x = along c g t in bad (subst (λ h. Suits k (T c) (G h)) x.2 (suits_of c x.0 x.3))
         fault_fails (miscounted c h o z l t near bad) =
             let x = along (T c).parent h t in
             let near' : Kin G n (owner G n x.0) (T c).role o = subst (λ p. Kin G n p (T c).role o) (sym x.2) near in

@@ -1,4 +1,5 @@
 pub mod Standing
+pub mod Tallying
 pub mod Rooted
 pub mod Shaping
 pub mod Clearing

@@ -2,6 +2,7 @@
 #![tactic(auto)]
 
 pub mod bounds;
+pub mod census;
 pub mod facts;
 pub mod form;
 pub mod group;

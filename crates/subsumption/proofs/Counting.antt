@@ -3,7 +3,8 @@ use Rattle.std.proofs.Common.{◌≡◌, ℕ, ◌+◌, ◌<◌, ◌≤◌, Bool,
 use Rattle.std.proofs.lemmas.Option.{none-some, same_Some}
 use Rattle.std.proofs.lemmas.Bool.{cases_lt}
 use Rattle.rows.specs.declared.group.Group.{Group}
-use Rattle.rows.proofs.Fitting.{Kin, kin, no_kin, heads, Lone}
+use Rattle.rows.specs.Suiting.{Kin, kin, no_kin, heads}
+use Rattle.rows.proofs.Fitting.{Lone}
 use Rattle.subsumption.specs.Census.{Stated, Fate, gone, idle, settled, Census}
 
 module _ {V : Type 0} (up by many : ℕ → ℕ) (atom : ℕ → ℕ → Bool) (picked : ℕ → V → Type 0) (t : ℕ) (lower : (s : ℕ) → 0 < s → s < t → up s < s) where

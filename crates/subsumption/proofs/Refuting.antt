@@ -9,7 +9,8 @@ use Rattle.rows.specs.Numbers.{Under, Allows, ClosesOff, Limited}
 use Rattle.rows.specs.Shapes.{Shape, Coherent}
 use Rattle.rows.specs.declared.group.Group.{Group}
 use Rattle.rows.specs.declared.row.Row.{Row}
-use Rattle.rows.proofs.Fitting.{Lone, Kin, heads, Suits, Fitting, Trail, origin, onward, Fault, unsuited, miscounted, fitting_meets, fault_fails}
+use Rattle.rows.specs.Suiting.{Kin, heads, Suits}
+use Rattle.rows.proofs.Fitting.{Lone, Fitting, Trail, origin, onward, Fault, unsuited, miscounted, fitting_meets, fault_fails}
 use Rattle.rows.proofs.Groups.{owner_first}
 use Rattle.rows.proofs.RowFacts.{well_formed_lone, well_formed_peopled}
 use Rattle.subsumption.specs.Census.{Census}

@@ -2,6 +2,8 @@
 #![tactic(auto)]
 
 #[cfg(test)]
+mod censuses;
+#[cfg(test)]
 mod descriptions;
 #[cfg(test)]
 mod normal_forms;
