@@ -8,3 +8,4 @@ pub mod Comparing
 pub mod Turning
 pub mod Deciding
 pub mod Picking
+pub mod Judging

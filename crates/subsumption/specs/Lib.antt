@@ -7,3 +7,4 @@ pub mod Census
 pub mod Outcome
 pub mod Written
 pub mod Answers
+pub mod Judging

@@ -6,4 +6,5 @@ mod countermodel;
 mod decide;
 mod demand;
 mod gap;
+pub mod judge;
 mod plan;

@@ -6,4 +6,6 @@ mod censuses;
 #[cfg(test)]
 mod descriptions;
 #[cfg(test)]
+mod judging;
+#[cfg(test)]
 mod normal_forms;
