@@ -9,3 +9,5 @@ pub mod Turning
 pub mod Deciding
 pub mod Picking
 pub mod Judging
+pub mod Writing
+pub mod Answering

@@ -223,7 +223,7 @@ module _ {R V : Type 0} (k : Domain R V) (P : ℕ → Row R) (n : ℕ) (Q : ℕ 
   end_some : 0 < c → 0 < end
   end_some z = ways.place_some k P n Q m M shape other c here need small stops is deep line 0 (deep_some z)
 
-  amount_limit : 0 < c → x ≤ 1000
+  pub amount_limit : 0 < c → x ≤ 1000
   amount_limit z = go need (last z).lacks
     where
       low : (gives k P (last z).found).lower ≤ 999
@@ -252,7 +252,7 @@ module _ {R V : Type 0} (k : Domain R V) (P : ℕ → Row R) (n : ℕ) (Q : ℕ 
 
   -- Readings that are picked are given.
 
-  lacks_first : (d : ℕ) (w : Match) (v : Need) → Stops k P n Q M d w v → d ≡ 0 → Lacks k (row_gives k (P 0)) (Q 0) v
+  pub lacks_first : (d : ℕ) (w : Match) (v : Need) → Stops k P n Q M d w v → d ≡ 0 → Lacks k (row_gives k (P 0)) (Q 0) v
   lacks_first d w v (at_first l) e = l
   lacks_first d w v (at_row z matched reaches lacks) e = absurd (omega arith)
 

@@ -1,5 +1,6 @@
 // What the second form asks for at a row and the first does not give.
-ghost use Rattle.std.specs.Prelude.{◌≡◌};
+ghost use Rattle.std.specs.Prelude.{◌≡◌, ◌≤◌};
+ghost use Rattle.subsumption.specs.Slots.{amount};
 
 // What the first form has at the path of a row of the second.
 #[derive(Clone, Copy)]
@@ -35,6 +36,18 @@ pub struct Gap {
 pub struct Short {
     pub row: usize,
     pub need: Need,
+}
+
+impl Need {
+    // How many elements show it.
+    pub(crate) fn amount(&self) -> u16
+        ensures { amount self.now ≤ 1000 → result ≡ amount self.now }
+    {
+        match self {
+            Need::Count(count) => u16::try_from(*count).unwrap_or(u16::MAX),
+            _ => 1,
+        }
+    }
 }
 
 impl Gap {

@@ -4,6 +4,8 @@
 #[cfg(test)]
 mod censuses;
 #[cfg(test)]
+mod comparing;
+#[cfg(test)]
 mod descriptions;
 #[cfg(test)]
 mod judging;
