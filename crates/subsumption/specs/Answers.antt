@@ -24,6 +24,7 @@ module _ {R V : Type 0} (k : Domain R V) (ps qs : List (Row R)) where
   Compared old new (Ok None) = (256 ≤ length old) × (new ≡ old) × ((e : Row R) → Included k (rows_of e ps) (length ps) (rows_of e qs) (length qs))
   Compared old new (Ok (Some g)) =
       (256 ≤ length old)
+      × (g ≤ 256)
       × (length new ≡ length old)
       × ((d : Group V) (x : ℕ) → g ≤ x → groups_of d new x ≡ groups_of d old x)
       × ((e : Row R) (d : Group V) → Coherent k (rows_of e ps) (length ps) → Countermodel k (rows_of e ps) (length ps) (rows_of e qs) (length qs) (groups_of d new) g)

@@ -37,6 +37,7 @@ returns g c =
     record {
       answer = (
         c.if-groups-lt-MOST_GROUPS.false,
+        c.write.ensures.few,
         c.write.ensures.room,
         c.write.ensures.past,
         λ e d coherent.
