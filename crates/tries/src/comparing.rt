@@ -110,6 +110,34 @@ fn deeper(rt: HostRuntime) {
     expect(&rt, &all_of_all, &all, Some(2));
 }
 
+// Silence about a role is a yes where nothing is asked of its fillers.
+#[test]
+fn silence(rt: HostRuntime) {
+    let nothing = [TOP, numbers(0, 3, 0, None), numbers(1, 5, 0, None)];
+    expect(&rt, &[TOP], &nothing[..2], None);
+    expect(&rt, &[TOP], &nothing, None);
+    expect(&rt, &[TOP], &[TOP, numbers(0, 3, 1, None)], Some(1));
+}
+
+// How many fillers show that there may be too many.
+#[test]
+fn crowds(rt: HostRuntime) {
+    let cases = [
+        (numbers(0, 3, 0, None), 999, 1000),
+        (numbers(0, 3, 5, None), 3, 5),
+        (numbers(0, 3, 2, Some(9)), 4, 5),
+    ];
+    for (given, most, expected) in cases {
+        let mut groups = [BLANK; 256];
+        let first = [TOP, given];
+        let second = [TOP, numbers(0, 3, 0, Some(most))];
+        if let (Some(p), Some(q)) = (Form::of(&first), Form::of(&second)) {
+            assert_eq!(rt; compare(&p, &q, &mut groups), Ok(Some(2)));
+        }
+        assert_eq!(rt; groups[1].headcount, expected);
+    }
+}
+
 #[test]
 fn rooms(rt: HostRuntime) {
     let mut groups = [BLANK; 255];
