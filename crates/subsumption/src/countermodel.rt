@@ -12,13 +12,14 @@ use rows::group::Group;
 use rows::row::MOST_ROWS;
 
 // Two forms with what comparing them came to, and how many elements the slots on the way are to have.
-#[derive(Clone, Copy)]
+#[derive(Drop)]
 pub struct Plan<'a, K> {
     pub first: &'a Form<'a, K>,
     pub second: &'a Form<'a, K>,
     pub matches: &'a [Match; MOST_ROWS],
     pub force: &'a [u16; MOST_SLOTS],
     pub short: Short,
+    ghost row: { short.row < length second.now.rows.now },
 }
 
 // A slot: the one that it hangs from, by which role, and how many elements it has.
@@ -75,7 +76,6 @@ impl<'a, K: Kind> Plan<'a, K> {
 
     // What the elements of a slot are like.
     fn likeness(&self, s: usize) -> Likeness<K::Reading>
-        requires { self.now.short.row < length self.now.second.now.rows.now }
         ensures { LikenessIs K.Kind.domain self.now.first.now.rows.now self.now.second.now.rows.now self.now.matches.now self.now.short s result }
     {
         let first = self.first.rows();
@@ -105,7 +105,6 @@ impl<'a, K: Kind> Plan<'a, K> {
 
     // The group of a slot's elements.
     fn group(&self, s: usize, parent: usize, headcount: u16) -> Group<K::Reading>
-        requires row { self.now.short.row < length self.now.second.now.rows.now }
         requires slot { s < length self.now.first.now.rows.now + length self.now.second.now.rows.now }
         requires parent { parent < MOST_GROUPS }
         ensures { GroupIs K.Kind.domain self.now.first.now.rows.now self.now.second.now.rows.now self.now.matches.now self.now.force.now self.now.short s parent headcount result }
@@ -123,7 +122,6 @@ impl<'a, K: Kind> Plan<'a, K> {
 
     // Writes a group for each slot that has elements, where the slot that it hangs from has a group, and tells how many.
     pub(crate) fn write(&self, groups: &mut [Group<K::Reading>]) -> usize
-        requires row { self.now.short.row < length self.now.second.now.rows.now }
         requires room { 256 ≤ length groups.old }
         ensures few { result ≤ 256 }
         ensures room { length groups.new ≡ length groups.old }

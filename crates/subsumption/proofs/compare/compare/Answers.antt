@@ -23,9 +23,10 @@ pub mark_way-force-requires-clause-row : goal.mark_way-force-requires-clause-row
 mark_way-force-requires-clause-row g c =
     inside g.K.Kind.domain c.args.p.now.rows.now c.args.q.now.rows.now (form_shaped c.args.p.now) (form_shaped c.args.q.now) c.decide.new.matches c.in-Err.short c.in-Err.ensures
 
-pub write-requires-clause-row : goal.write-requires-clause-row
-write-requires-clause-row g c =
-    inside g.K.Kind.domain c.args.p.now.rows.now c.args.q.now.rows.now (form_shaped c.args.p.now) (form_shaped c.args.q.now) c.decide.new.matches c.in-Err.short c.in-Err.ensures
+pub invariant_of-plan : goal.invariant_of-plan
+invariant_of-plan g c = record {
+  row = inside g.K.Kind.domain c.args.p.now.rows.now c.args.q.now.rows.now (form_shaped c.args.p.now) (form_shaped c.args.q.now) c.decide.new.matches c.in-Err.short c.in-Err.ensures;
+}
 
 pub returns : goal.returns
 returns g c =

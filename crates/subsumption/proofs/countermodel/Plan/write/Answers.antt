@@ -20,7 +20,7 @@ loop-s-preserved g c =
     let few = plan.first.now.few in
     let less = plan.second.now.few in
     let l : c.loop-s.s < length ps + plan.short.row + 1 = omega (arith, ap length c.rows.ensures.value, c.loop-s-test.true) in
-    let small : c.loop-s.s < 256 = omega (arith, l, few, less, c.requires.row) in
+    let small : c.loop-s.s < 256 = omega (arith, l, few, less, plan.row) in
     let fits : c.loop-s.g < length c.loop-s.groups = omega (arith, so.few, small, so.size, c.requires.room) in
     elim c.match-made-slot.branch [
       | in-Some+then-slot-gt0 w ↦ moved k ps qs plan.matches.now plan.force.now plan.short old w.groups-is w.made-is w.g-is
