@@ -45,23 +45,22 @@ fn group(parent: u8, role: u8, headcount: u16, atoms: u64, reading: i32) -> Grou
     }
 }
 
-// Whether the groups are well formed and their first element meets the form.
-fn met(groups: &[Group<i32>]) -> bool {
-    match (Census::<Span>::of(groups), Form::of(&ROWS)) {
-        (Ok(census), Some(form)) => meets(&census, &form),
-        _ => false,
-    }
+// Whether the first element of the groups meets the form; none where the groups or the rows are not well formed.
+fn met(groups: &[Group<i32>]) -> Option<bool> {
+    let census = Census::<Span>::of(groups).ok()?;
+    let form = Form::of(&ROWS)?;
+    Some(meets(&census, &form))
 }
 
 #[test]
 fn models(rt: HostRuntime) {
     let first = group(0, 0, 1, 1, 50);
     for fillers in [group(0, 7, 2, 2, 10), group(0, 7, 3, 6, 20)] {
-        assert!(rt; met(&[first, fillers]));
-        assert!(rt; met(&[first, group(0, 2, 9, 0, 0), fillers]));
-        assert!(rt; met(&[first, fillers, group(1, 2, 1, 32, 0)]));
-        assert!(rt; met(&[first, fillers, group(1, 3, 1, 0, 0)]));
-        assert!(rt; !met(&[first, fillers, group(1, 2, 1, 31, 0)]));
+        assert_eq!(rt; met(&[first, fillers]), Some(true));
+        assert_eq!(rt; met(&[first, group(0, 2, 9, 0, 0), fillers]), Some(true));
+        assert_eq!(rt; met(&[first, fillers, group(1, 2, 1, 32, 0)]), Some(true));
+        assert_eq!(rt; met(&[first, fillers, group(1, 3, 1, 0, 0)]), Some(true));
+        assert_eq!(rt; met(&[first, fillers, group(1, 2, 1, 31, 0)]), Some(false));
     }
 }
 
@@ -78,9 +77,9 @@ fn others(rt: HostRuntime) {
         group(0, 6, 2, 2, 10),
     ];
     for few in faulty {
-        assert!(rt; !met(&[first, few]));
+        assert_eq!(rt; met(&[first, few]), Some(false));
     }
-    assert!(rt; !met(&[first]));
-    assert!(rt; !met(&[group(0, 0, 1, 2, 50), fillers]));
-    assert!(rt; !met(&[group(0, 0, 1, 1, 100), fillers]));
+    assert_eq!(rt; met(&[first]), Some(false));
+    assert_eq!(rt; met(&[group(0, 0, 1, 2, 50), fillers]), Some(false));
+    assert_eq!(rt; met(&[group(0, 0, 1, 1, 100), fillers]), Some(false));
 }
