@@ -1,8 +1,8 @@
 -- A form held against a census, one row after another. Assumes nothing.
-use Rattle.std.proofs.Common.{◌≡◌, ℕ, ◌+◌, ◌<◌, ◌≤◌, Bool, true, false, List, length, get_or, set, replicate, Some, None, Option, IfSome, Decides, sym, refl, ap, ◌∙◌, subst, ⊎_elim, arith, length-set}
+use Rattle.std.proofs.Common.{◌≡◌, ℕ, ◌+◌, ◌<◌, ◌≤◌, Bool, true, false, List, length, get_or, set, Some, None, Option, IfSome, Decides, sym, refl, ap, ◌∙◌, subst, ⊎_elim, arith, length-set}
 use Rattle.std.proofs.lemmas.Bool.{false≢true, cases_lt, cases_eq}
 use Rattle.std.proofs.lemmas.Option.{none-some, same_Some}
-use Rattle.std.proofs.lemmas.List.{get_or_read, get_or_past, get_or-replicate, get_or-set_same, get_or-set_other, length-replicate}
+use Rattle.std.proofs.lemmas.List.{get_or_read, get_or-set_same, get_or-set_other}
 use Rattle.kinds.specs.Domain.{Domain}
 use Rattle.rows.specs.Groups.{WellFormed, world, total_some, groups_of}
 use Rattle.rows.specs.Hanging.{Hook, child_in}
@@ -19,10 +19,7 @@ use Rattle.rows.proofs.Hanging.{child_some, child_none}
 use Rattle.rows.proofs.Rooted.{Earlier}
 use Rattle.rows.proofs.RowFacts.{well_formed_lone, well_formed_peopled}
 use Rattle.subsumption.specs.Judging.{Filled, Judges}
-
--- the slots of an array, none past its end
-abbrev pub slots : List (Option ℕ) → ℕ → Option ℕ
-slots xs i = get_or xs i None
+use Rattle.subsumption.proofs.Slotting.{slots, fresh, fresh_size, fresh_first, fresh_other}
 
 module _ {R V : Type 0} (k : Domain R V) where
   -- what stands past the end
@@ -79,22 +76,22 @@ module _ {R V : Type 0} (k : Domain R V) where
     abbrev At : (ℕ → Option ℕ) → (ℕ → Option ℕ) → ℕ → Option ℕ → Type 0
     At old new c o = (new c ≡ o) × ((b : ℕ) → (b ≡ c → ⊥) → new b ≡ old b)
 
-    pub started : (old new : ℕ → Option ℕ) → At old new 0 (Some 0) → ((b : ℕ) → old b ≡ None) → Suits k (T 0) (G 0) → Reached T m G n new 1
-    started old new at none suits = record {
-      root = at.0;
+    pub started : (reached : ℕ → Option ℕ) → reached 0 ≡ Some 0 → ((b : ℕ) → (b ≡ 0 → ⊥) → reached b ≡ None) → Suits k (T 0) (G 0) → Reached T m G n reached 1
+    started reached at none suits = record {
+      root = at;
       fit = record {
-        there = λ c g l e. let z : c ≡ 0 = omega arith in let q : 0 ≡ g = same_Some 0 g (sym at.0 ∙ ap new (sym z) ∙ e) in
+        there = λ c g l e. let z : c ≡ 0 = omega arith in let q : 0 ≡ g = same_Some 0 g (sym at ∙ ap reached (sym z) ∙ e) in
             subst (λ x. Suits k (T x) (G g)) (sym z) (subst (λ x. Suits k (T 0) (G x)) q suits);
         kin = λ b h z l e. absurd (omega arith);
         numbers = λ b h z l e. absurd (omega arith);
       };
-      trail = λ b g l e. let z : b ≡ 0 = omega arith in let q : 0 ≡ g = same_Some 0 g (sym at.0 ∙ ap new (sym z) ∙ e) in
+      trail = λ b g l e. let z : b ≡ 0 = omega arith in let q : 0 ≡ g = same_Some 0 g (sym at ∙ ap reached (sym z) ∙ e) in
           subst (λ x. Trail k T m G n x g) (sym z) (subst (λ x. Trail k T m G n 0 x) q origin);
       inside = λ b g e. ⊎_elim
-          (λ z. let q : 0 ≡ g = same_Some 0 g (sym at.0 ∙ ap new (sym z) ∙ e) in let s = w.some in omega arith)
-          (λ z. absurd (none-some g (sym (at.1 b z ∙ none b) ∙ e)))
+          (λ z. let q : 0 ≡ g = same_Some 0 g (sym at ∙ ap reached (sym z) ∙ e) in let s = w.some in omega arith)
+          (λ z. absurd (none-some g (sym (none b z) ∙ e)))
           (cases_eq b 0);
-      later = λ b l. at.1 b (λ z. omega arith) ∙ none b;
+      later = λ b l. none b (λ z. omega arith);
     }
 
     -- a row that hangs from none that is reached
@@ -210,18 +207,13 @@ module _ {R V : Type 0} (k : Domain R V) where
     first_row : (x : Row R) → x ≡ get_or rows 0 x → (e : Row R) → x ≡ rows_of e rows 0
     first_row x xi e = get_or_read rows 0 x shaped.0 xi e
 
-    pub sofar_first : (x : Row R) (y : Group V) → x ≡ get_or rows 0 x → y ≡ get_or gs 0 y → Suits k x y → Sofar gs rows (set (replicate 128 None) 0 (Some 0)) 1
+    pub sofar_first : (x : Row R) (y : Group V) → x ≡ get_or rows 0 x → y ≡ get_or gs 0 y → Suits k x y → Sofar gs rows (fresh 128) 1
     sofar_first x y xi yi suits = (
-      length-set {A = Option ℕ} (replicate 128 None) 0 (Some 0) ∙ length-replicate {A = Option ℕ} 128 None,
+      fresh_size 128,
       λ d e.
-          started (rows_of e rows) (length rows) (earlier_at e) shaped.0 (groups_of d gs) (length gs) (formed d) (slots (replicate 128 None)) _
-          (get_or-set_same (replicate 128 None) 0 (Some 0) None (omega (arith, length-replicate {A = Option ℕ} 128 None)), λ b ne. get_or-set_other (replicate 128 None) 0 b (Some 0) None ne)
-          (λ b. none_at b)
+          started (rows_of e rows) (length rows) (earlier_at e) shaped.0 (groups_of d gs) (length gs) (formed d) (slots (fresh 128)) (fresh_first 128 (omega arith)) (fresh_other 128)
           (subst (λ z. Suits k (rows_of e rows 0) z) (first_group y yi d) (subst (λ z. Suits k z y) (first_row x xi e) suits)),
     )
-      where
-        none_at : (b : ℕ) → ◌≡◌ {A = Option ℕ} (get_or (replicate 128 None) b None) None
-        none_at b = ⊎_elim (λ l. get_or-replicate 128 b None None l) (λ u. get_or_past (replicate 128 None) b None (omega (arith, length-replicate {A = Option ℕ} 128 None))) (cases_lt b 128)
 
     -- Row c, which hangs from row p, and what is reached before it.
     module _ (rs : List (Option ℕ)) (c p : ℕ) (x : Row R) (so : Sofar gs rows rs c) (z : 0 < c) (l : c < length rows) (xi : x ≡ get_or rows c x) (pi : p ≡ x.parent) where

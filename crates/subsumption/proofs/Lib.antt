@@ -8,6 +8,7 @@ pub mod Comparing
 pub mod Turning
 pub mod Deciding
 pub mod Picking
+pub mod Slotting
 pub mod Judging
 pub mod Writing
 pub mod Answering

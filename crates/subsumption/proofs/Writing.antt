@@ -1,8 +1,8 @@
 -- Writing groups into a slice, one slot after another. Assumes nothing.
-use Rattle.std.proofs.Common.{◌≡◌, ℕ, ◌+◌, ◌<◌, ◌≤◌, ◌⊎◌, List, length, get_or, set, replicate, Some, None, Option, sym, refl, ap, ◌∙◌, subst, inl, inr, ⊎_elim, arith, length-set}
-use Rattle.std.proofs.lemmas.Bool.{cases_lt, cases_eq}
+use Rattle.std.proofs.Common.{◌≡◌, ℕ, ◌+◌, ◌<◌, ◌≤◌, ◌⊎◌, List, length, set, Some, None, Option, sym, refl, ap, ◌∙◌, subst, inl, inr, ⊎_elim, arith, length-set}
+use Rattle.std.proofs.lemmas.Bool.{cases_eq}
 use Rattle.std.proofs.lemmas.Option.{none-some, same_Some}
-use Rattle.std.proofs.lemmas.List.{get_or_past, get_or-replicate, get_or-set_same, get_or-set_other, length-replicate}
+use Rattle.std.proofs.lemmas.List.{get_or-set_same, get_or-set_other}
 use Rattle.kinds.specs.Domain.{Domain}
 use Rattle.rows.specs.Groups.{groups_of}
 use Rattle.rows.specs.declared.group.Group.{Group}
@@ -11,7 +11,7 @@ use Rattle.subsumption.specs.Written.{GroupIs, GroupOf, CensusOf, Falls, up_of, 
 use Rattle.subsumption.specs.declared.gap.Match.{Match}
 use Rattle.subsumption.specs.declared.gap.Short.{Short}
 use Rattle.subsumption.proofs.Counting.{census_first, census_none, census_some}
-use Rattle.subsumption.proofs.Judging.{slots}
+use Rattle.subsumption.proofs.Slotting.{slots, fresh, fresh_size, fresh_first, fresh_other}
 
 module _ {R V : Type 0} (k : Domain R V) (ps qs : List (Row R)) (ms : List Match) (fs : List ℕ) (short : Short) (old : List (Group V)) where
   abbrev t : ℕ
@@ -32,32 +32,23 @@ module _ {R V : Type 0} (k : Domain R V) (ps qs : List (Row R)) (ms : List Match
   pub moved : {gs gs' : List (Group V)} {rs rs' : List (Option ℕ)} {s g g' : ℕ} → gs' ≡ gs → rs' ≡ rs → g' ≡ g → Sofar gs rs s g → Sofar gs' rs' s g'
   moved a b c so = rw (a, b, c) so
 
-  pub started : (x : Group V) → 0 < length old → GroupIs k ps qs ms fs short 0 0 1 x → Sofar (set old 0 x) (set (replicate 256 None) 0 (Some 0)) 1 1
+  pub started : (x : Group V) → 0 < length old → GroupIs k ps qs ms fs short 0 0 1 x → Sofar (set old 0 x) (fresh 256) 1 1
   started x some is = record {
-    room = length-set {A = Option ℕ} (replicate 256 None) 0 (Some 0) ∙ length-replicate {A = Option ℕ} 256 None;
+    room = fresh_size 256;
     size = length-set old 0 x;
     some = omega arith;
     few = omega arith;
     past = λ d y l. get_or-set_other old 0 y x d (λ e. omega arith);
     inside = λ b h e. ⊎_elim
-        (λ z. let q = same_Some 0 h (sym root ∙ ap (slots (set (replicate 256 None) 0 (Some 0))) (sym z) ∙ e) in omega arith)
-        (λ z. absurd (none-some h (sym (others b z) ∙ e)))
+        (λ z. let q = same_Some 0 h (sym (fresh_first 256 (omega arith)) ∙ ap (slots (fresh 256)) (sym z) ∙ e) in omega arith)
+        (λ z. absurd (none-some h (sym (fresh_other 256 b z) ∙ e)))
         (cases_eq b 0);
-    later = λ b l. others b (λ e. omega arith);
+    later = λ b l. fresh_other 256 b (λ e. omega arith);
     census = λ e d falls.
         census_first (up_of k ps qs ms fs short e) (by_of k ps qs ms fs short e) (many_of k ps qs ms fs short e) (atom_of k ps qs ms fs short e) (picked_of k ps qs ms fs short e) t falls
-        (groups_of d (set old 0 x)) (slots (set (replicate 256 None) 0 (Some 0))) root
+        (groups_of d (set old 0 x)) (slots (fresh 256)) (fresh_first 256 (omega arith))
         (subst (λ y. GroupOf k ps qs ms fs short e 0 0 1 y) (sym (get_or-set_same old 0 x d some)) (is e));
   }
-    where
-      none_at : (b : ℕ) → ◌≡◌ {A = Option ℕ} (get_or (replicate 256 None) b None) None
-      none_at b = ⊎_elim (λ l. get_or-replicate 256 b None None l) (λ u. get_or_past (replicate 256 None) b None (omega (arith, length-replicate {A = Option ℕ} 256 None))) (cases_lt b 256)
-
-      root : slots (set (replicate 256 None) 0 (Some 0)) 0 ≡ Some 0
-      root = get_or-set_same (replicate 256 None) 0 (Some 0) None (omega (arith, length-replicate {A = Option ℕ} 256 None))
-
-      others : (b : ℕ) → (b ≡ 0 → ⊥) → slots (set (replicate 256 None) 0 (Some 0)) b ≡ None
-      others b ne = get_or-set_other (replicate 256 None) 0 b (Some 0) None ne ∙ none_at b
 
   -- Slot s, which hangs from slot p and has n elements.
   module _ (gs : List (Group V)) (rs : List (Option ℕ)) (s g p n : ℕ) (so : Sofar gs rs s g) (z : 0 < s) (l : s < t)
