@@ -1,13 +1,9 @@
 -- One code more in a list of codes. Assumes nothing.
-use Rattle.std.proofs.Common.{◌≡◌, ℕ, ◌+◌, ◌<◌, true, false, eqb, ltb, List, [], ◌∷◌, ◌++◌, length, get_or, map, Option, codes, refl, sym, ap, ◌∙◌, subst, ⊎_elim, arith, Bor, ◌≢◌}
-use Rattle.std.specs.List.{list_any, join_with_byte}
+use Rattle.std.proofs.Common.{◌≡◌, ℕ, ◌+◌, ◌<◌, eqb, ltb, List, length, get_or, sym, ◌∙◌, subst, ⊎_elim, arith, Bor}
 use Rattle.std.proofs.lemmas.List.{get_or_default}
-use Rattle.std.proofs.lemmas.List.Folds.{list_any-append}
-use Rattle.std.proofs.lemmas.Bool.{both_ways, or_cases, or_left, or_right, and_parts, and_from, eqb-true, eq-eqb, lt-ltb, cases_lt}
+use Rattle.std.proofs.lemmas.Bool.{or_cases, or_left, or_right, and_parts, and_from, eqb-true, eq-eqb, lt-ltb, cases_lt}
 use Rattle.masks.specs.Masks.{has, Single, Joined}
-use Rattle.kinds.specs.declared.choice.Choice.{Choice}
-use Rattle.matching.specs.Texts.{Whole, Apart}
-use Rattle.matching.specs.Words.{IsCode, Writes, Listed, Collected, Codes}
+use Rattle.matching.specs.Words.{IsCode, Writes, Listed}
 
 pub listed_more : (ps : List (Bor (List ℕ))) (n bits one r c : ℕ) (d : Bor (List ℕ)) → n < length ps
     → Listed ps n bits → IsCode (get_or ps n d).now c → Single c one → Joined bits one r → Listed ps (n + 1) r
@@ -31,25 +27,3 @@ listed_more ps n bits one r c d within before code single joined =
             (cases_lt s.0 n),
       );
     }
-
--- ps is not that word alone
-abbrev pub IsNot : List ℕ → List (Bor (List ℕ)) → Type 0
-IsNot word ps = (p : Bor (List ℕ)) → ps ≡ p ∷ [] → p.now ≡ word → ⊥
-
-has_comma : (x y : List ℕ) → list_any (λ b. eqb b 44) (x ++ (44 ∷ y)) ≡ true
-has_comma x y = list_any-append (λ b. eqb b 44) x (44 ∷ y) ∙ or_right _ _ refl
-
--- a text with no comma is its only piece
-not_whole : (word : List ℕ) → list_any (λ b. eqb b 44) word ≡ false → word ≢ [] → (ps : List (Bor (List ℕ))) → IsNot word ps → Whole 44 word ps → ⊥
-not_whole word none some [] h e = some e
-not_whole word none some (p ∷ []) h e = h p refl (sym e)
-not_whole word none some (p ∷ q ∷ ps) h e = both_ways (list_any (λ b. eqb b 44) word) none (ap (list_any (λ b. eqb b 44)) e ∙ has_comma p.now (join_with_byte 44 (map (λ x. x.now) (q ∷ ps))))
-
--- the pieces of a text that is neither `any` nor `none`
-pub codes_listed : (ps : List (Bor (List ℕ))) (o : Option Choice) → Collected ps o → IsNot (codes "any") ps → IsNot (codes "none") ps
-    → (text : List ℕ) → Whole 44 text ps → Apart 44 ps → Codes text o
-codes_listed ps o collected not_any not_none text whole apart = record {
-  any = λ e. absurd (not_whole (codes "any") refl (λ f. cc) ps not_any (sym e ∙ whole));
-  none = λ e. absurd (not_whole (codes "none") refl (λ f. cc) ps not_none (sym e ∙ whole));
-  list = λ _ _. (ps, whole, apart, collected);
-}

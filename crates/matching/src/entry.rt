@@ -1,8 +1,8 @@
 // Reading a stock list: one line for each shaft and each bore.
-ghost use Rattle.std.specs.Prelude.{◌≡◌, ℕ, ◌<◌, ℤ, List, IfOk};
+ghost use Rattle.std.specs.Prelude.{◌≡◌, ℕ, ◌<◌, ℤ, List, Err as Unread, IfOk, IfErr};
 ghost use Rattle.matching.specs.Entries.{Read, Said};
 ghost use Rattle.matching.specs.Texts.{Whole, Apart};
-ghost use Rattle.matching.specs.Words.{Found, IsNumber, IsCode, Collected, Codes};
+ghost use Rattle.matching.specs.Words.{Found, word_of, IsNumber, IsCode, Collected, Codes};
 
 use kinds::choice::Choice;
 use kinds::kind::Kind;
@@ -105,34 +105,48 @@ fn read_list(list: &[&str]) -> Option<Choice>
     Some(Choice { bits })
 }
 
-// What the pieces of a text between its commas say.
-fn read_codes(list: &[&str]) -> Option<Choice>
-    ensures { (text : List ℕ) → Whole 44 text list.now → Apart 44 list.now → Codes text result }
+// What a word of codes says. Only a list is split, which needs memory.
+fn read_codes(heap: Global, text: &str) -> Result<Option<Choice>, AllocError>
+    ensures { IfOk result (Codes text.now) }
 {
-    match list {
-        ["any"] => Some(Choice::whole()),
-        ["none"] => Some(Choice { bits: 0 }),
-        _ => read_list(list),
+    match text {
+        "any" => Ok(Some(Choice::whole())),
+        "none" => Ok(Some(Choice { bits: 0 })),
+        _ => Ok(read_list(&pieces(heap, text, ',')?)),
     }
 }
 
-fn read_words<'a>(
-    side: &str,
-    name: &'a str,
-    low: &str,
-    high: &str,
-    codes: &[&str],
-) -> Result<Entry<'a>, Fault>
-    ensures { (text : List ℕ) → Whole 44 text codes.now → Apart 44 codes.now
-        → Read side.now name.now low.now high.now text result }
+// The side and the diameters of a line.
+fn read_front(side: &str, low: &str, high: &str) -> Result<(Side, Span), Fault>
+    ensures read { IfOk result (λ x. (side.now ≡ word_of x.0) × IsNumber low.now x.1.low × IsNumber high.now x.1.high) }
+    ensures refused { (name codes : List ℕ) → IfErr result (λ f. Read side.now name low.now high.now codes (Unread f)) }
 {
     let side = side.parse()?;
     let low = read_number(low).ok_or(Fault::NoLow)?;
     let high = read_number(high).ok_or(Fault::NoHigh)?;
-    let second = read_codes(codes).ok_or(Fault::NoCodes)?;
-    let first = Span { low, high };
+    Ok((side, Span { low, high }))
+}
+
+// The codes come last: a line that is at fault before them needs no memory for them.
+fn read_words<'a>(
+    heap: Global,
+    side: &str,
+    name: &'a str,
+    low: &str,
+    high: &str,
+    codes: &str,
+) -> Result<Result<Entry<'a>, Fault>, AllocError>
+    ensures { IfOk result (Read side.now name.now low.now high.now codes.now) }
+{
+    let (side, first) = match read_front(side, low, high) {
+        Ok(front) => front,
+        Err(fault) => return Ok(Err(fault)),
+    };
+    let Some(second) = read_codes(heap, codes)? else {
+        return Ok(Err(Fault::NoCodes));
+    };
     let fit = Pair { first, second };
-    Ok(Entry { side, name, fit })
+    Ok(Ok(Entry { side, name, fit }))
 }
 
 // What a line says, or why it can't be read: `shaft` or `bore`, a name, the least and the greatest
@@ -142,9 +156,8 @@ pub fn read_entry<'a>(heap: Global, line: &'a str) -> Result<Result<Entry<'a>, F
     ensures answer { IfOk result (Said line.now) }
 {
     let words = pieces(heap, line, ' ')?;
-    let [side, name, low, high, codes] = words.as_slice() else {
-        return Ok(Err(Fault::NotFiveWords));
-    };
-    let codes = pieces(heap, codes, ',')?;
-    Ok(read_words(side, name, low, high, &codes))
+    match words.as_slice() {
+        [side, name, low, high, codes] => read_words(heap, side, name, low, high, codes),
+        _ => Ok(Err(Fault::NotFiveWords)),
+    }
 }
