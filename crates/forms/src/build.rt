@@ -46,9 +46,9 @@ pub fn build<K: Kind>(
 ) -> Result<usize, Unbuilt>
     ensures answer { Answers K.Kind.domain description.now.held.now sheets.entry.front.now sheets.entry.back.now description.now.nodes.now out.new result }
 {
-    let source = Source::of(description, sheets).ok_or(Unbuilt::Unfit)?;
     if out.len() < MOST_ROWS {
         return Err(Unbuilt::Unfit);
     }
+    let source = Source::of(description, sheets).ok_or(Unbuilt::Unfit)?;
     source.form(out).ok_or(Unbuilt::Contradictory)
 }

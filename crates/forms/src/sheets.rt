@@ -3,7 +3,6 @@ ghost use Rattle.std.specs.Prelude.{◌≡◌};
 ghost use Rattle.forms.specs.Blocks.{part_of, block_of};
 
 use rows::row::{MOST_ROWS, Row};
-use std::cmp::Ordering;
 
 // The blocks of the places before the one that is written, and of those after it.
 #[derive(Clone, Copy)]
@@ -16,7 +15,13 @@ pub struct Sheets<'a, K> {
 fn part<'a, K>(rows: &'a [Row<K>], place: usize) -> &'a [Row<K>]
     ensures { result.now ≡ part_of rows.now place }
 {
-    rows.chunks_exact(MOST_ROWS).nth(place).unwrap_or(&[])
+    // Not by `chunks_exact` and `nth`, which goes through the blocks before.
+    if place < rows.len() / MOST_ROWS {
+        let from = place * MOST_ROWS;
+        &rows[from..from + MOST_ROWS]
+    } else {
+        &[]
+    }
 }
 
 impl<'a, K> Sheets<'a, K> {
@@ -25,10 +30,13 @@ impl<'a, K> Sheets<'a, K> {
         ensures value { result.now ≡ block_of self.now.front.now self.now.back.now place }
     {
         let before = self.front.len() / MOST_ROWS;
-        match place.cmp(&before) {
-            Ordering::Less => part(self.front, place),
-            Ordering::Equal => &[],
-            Ordering::Greater => part(self.back, place - before - 1),
+        // Not by `cmp` and a `match`, which were tried: a build where thousands of places are held took half as long again.
+        if place < before {
+            part(self.front, place)
+        } else if place == before {
+            &[]
+        } else {
+            part(self.back, place - before - 1)
         }
     }
 }
