@@ -37,5 +37,9 @@ pub fn covers_of(under: &[u64; 64], p: usize) -> u64
 pub fn reduce(under: &[u64; 64]) -> [u64; 64]
     ensures { Reduction under.now result }
 {
-    array::from_fn(|p| covers_of(under, p))
+    array::from_fn(
+        |p|
+            ensures { (q : ℕ) → Decides (has_bit result q) ((p < 64) × Nearest under.entry.now p q) }
+        { covers_of(under, p) },
+    )
 }
