@@ -84,6 +84,12 @@ module _ {R V : Type 0} (k : Domain R V) where
     abbrev joined : List ℕ → Label V
     joined π = join (f π) (g π)
 
+    pub dead_left : (π : List ℕ) → Dead k f π → Dead k joined π
+    dead_left = dead_more f joined (λ π. more_left (f π) (g π))
+
+    pub dead_right : (π : List ℕ) → Dead k g π → Dead k joined π
+    dead_right = dead_more g joined (λ π. more_right (f π) (g π))
+
     pub shut_left : (π : List ℕ) → Shut k f π → Shut k joined π
     shut_left = shut_more f joined (λ π. more_left (f π) (g π))
 
@@ -107,6 +113,9 @@ module _ {R V : Type 0} (k : Domain R V) where
     lower = rw (p.lower, q.lower);
     upper = rw (p.upper, q.upper);
   }
+
+  pub alike_refl : (F : Form V) → AlikeForms F F
+  alike_refl F π = same (like_refl (F.at π)) refl
 
   module _ (F F' G G' : Form V) where
     abbrev Both : List ℕ → Type 0

@@ -1,5 +1,5 @@
 -- Laying one row after another. Assumes nothing.
-use Rattle.std.proofs.Common.{◌≡◌, ℕ, zero, suc, ◌+◌, ◌<◌, ◌≤◌, Bool, true, ◌⊎◌, List, [], ◌∷◌, length, sym, refl, ap, ◌∙◌, subst, inl, inr, ⊎_elim, arith}
+use Rattle.std.proofs.Common.{◌≡◌, ℕ, zero, suc, ◌+◌, ◌<◌, ◌≤◌, Bool, true, ◌⊎◌, List, [], ◌∷◌, length, sym, refl, ap, ◌∙◌, subst, inl, inr, ⊎_elim, arith, length-append}
 use Rattle.std.specs.List.{AllByRecursion}
 use Rattle.std.proofs.lemmas.Bool.{cases_lt, cases_eq}
 use Rattle.std.proofs.ByRecursion.{All-weaker}
@@ -22,6 +22,15 @@ module _ {R : Type 0} (A B : ℕ → Row R) (n : ℕ) (agree : (c : ℕ) → c <
   stands_agree c ρ l (below {π = σ} d some s) =
       let up = stands_agree (A d).parent σ (omega (arith, parents d some l)) s in
       subst (λ (row : Row R). Stands B row.parent σ → Stands B d (then_role σ row.role)) (sym (agree d l)) (below d some) up
+
+-- a path is no longer than the number of its row
+pub stands_depth : {R : Type 0} (T : ℕ → Row R) (n : ℕ) → ((c : ℕ) → 0 < c → c < n → (T c).parent < c) → (c : ℕ) (ρ : List ℕ) → c < n → Stands T c ρ → length ρ ≤ c
+stands_depth T n parents c ρ l root = omega arith
+stands_depth T n parents c ρ l (below {π = σ} d some s) =
+    let p = parents d some l in
+    let q = stands_depth T n parents (T d).parent σ (omega arith) s in
+    let e = length-append σ ((T d).role ∷ []) in
+    omega arith
 
 module _ {R V : Type 0} (k : Domain R V) (f : List ℕ → Label V) (w : List ℕ → Bool) where
   -- one row, at the empty path

@@ -1,7 +1,7 @@
 -- A finished form has a model: for each row a group of as many elements as its lower number asks for. Assumes nothing.
-use Rattle.std.proofs.Common.{◌≡◌, ℕ, zero, suc, ◌<◌, ◌≤◌, Bool, true, ◌⊎◌, List, [], ◌∷◌, Some, None, Option, sym, refl, ap, ◌∙◌, subst, inl, inr, ⊎_elim, arith}
+use Rattle.std.proofs.Common.{◌≡◌, ℕ, zero, suc, ◌<◌, ◌≤◌, Bool, true, false, ◌⊎◌, List, [], ◌∷◌, Some, None, Option, sym, refl, ap, ◌∙◌, subst, inl, inr, ⊎_elim, arith}
 use Rattle.std.proofs.lemmas.Bool.{both_ways, and_cases, cases_Bool, cases_lt}
-use Rattle.kinds.specs.Domain.{Domain, Empty}
+use Rattle.kinds.specs.Domain.{Domain, Empty, Member}
 use Rattle.concepts.specs.Interpretations.{Interpretation}
 use Rattle.rows.specs.Numbers.{Under, Over}
 use Rattle.forms.specs.Labels.{Label}
@@ -25,6 +25,14 @@ cases_over lo (Some u) = ⊎_elim inr inl (cases_lt u lo)
 
 under_same : (a b : ℕ) (u v : Option ℕ) → a ≡ b → u ≡ v → Under b v → Under a u
 under_same a b u v p q h = rw (p, q) h
+
+module _ {R V : Type 0} (k : Domain R V) where
+  -- a member of what is not empty is admitted
+  pub member_admitted : (r : R) (v : V) → Member k r v → (Empty k r → ⊥) → k.admits r v ≡ true
+  member_admitted r v m some = ⊎_elim (λ e. e) (λ e. absurd (some (none e))) (cases_Bool (k.admits r v))
+    where
+      none : k.admits r v ≡ false → Empty k r
+      none e u = ⊎_elim (λ h. absurd (both_ways (k.admits r v) e (m u h))) (λ h. h) (cases_Bool (k.admits r u))
 
 module _ {R V : Type 0} (k : Domain R V) (f : List ℕ → Label V) (w : List ℕ → Bool) (T : ℕ → Row R) (n : ℕ) (fin : FinishedBy k f w T n) where
   -- something can stand where a row hangs from

@@ -1,4 +1,5 @@
 pub mod Puts
+pub mod Marking
 mod Tables
 mod Reducing
 mod Counting

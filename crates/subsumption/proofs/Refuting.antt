@@ -131,6 +131,9 @@ module _ {R V : Type 0} (k : Domain R V) (P : ℕ → Row R) (n : ℕ) (Q : ℕ 
   only_real : (s : ℕ) → 0 < s → s < t → Real s → (b : ℕ) → 0 < b → b < t → 0 < many b → up b ≡ up s → by b ≡ by s → b ≡ s
   only_real s z l real b zb lb hb u r = ways.only k P n Q m M shape other c here need small stops is deep line s b z real zb (peopled b hb) u r
 
+  deep_zero : c ≡ 0 → deep ≡ 0
+  deep_zero e = ⊎_elim (λ h. absurd (let r = line.rows 0 h in omega arith)) (λ h. omega arith) (cases_lt 0 deep)
+
   deep_some : 0 < c → 0 < deep
   deep_some z = ⊎_elim (λ h. h) (λ h. absurd (let e : deep ≡ 0 = omega arith in let w = ap (ancestor Q c) (sym e) ∙ line.top in omega arith)) (cases_lt 0 deep)
 
